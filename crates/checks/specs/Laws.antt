@@ -1,0 +1,155 @@
+-- What a task, a passage slice, a table or a machine's rows have once they passed the checks, as facts for the callers.
+use mathlib.Core.Path.{_≡_, refl, _∙_}
+use mathlib.Core.Bool.{Bool, true, false, _&&_}
+use mathlib.Core.List.{List}
+use mathlib.Core.Logic.{⊎-elim}
+use Prim.Native.Nat.{ℕ, _*_, _%_, _≤_, _<_}
+use native.Mathlib.Decide.{ℕ-discrete}
+use native.Mathlib.Omega.{arith}
+use lib.ListN.{length, getD}
+use lib.Dec.{ltb, leb, eqb}
+use borrow.Author.Tests.{ltb-true, leb-true, eqb-true}
+use Rattle.laws.specs.Truth.{and-left, and-right, or-either, provided}
+use Rattle.laws.specs.All.{all, all-at, all-stop}
+use Rattle.rule.specs.Task.{passageCount, near, far, cost, estimate, Whole}
+use Rattle.rule.specs.Marks.{isOut, none}
+use Rattle.checks.specs.Opening.{Task, sizesRight, endsRight, weightsRight, passageRight, passagesRight, rowRight, estimatesRight, earlyFault, fault, holds1, holds2, holds3, holds4, holds5, holds6, holds7}
+use Rattle.checks.specs.Fits.{workerRight, labelsRight, workersRight}
+
+-- what conditions 1 to 4 say, as facts
+pub record Right (t : Task) : Type 0 where
+  pub some : 1 ≤ t .n
+  pub states : t .n ≤ 256
+  pub workers : t .k ≤ 32
+  pub threes : length (t .passages) % 3 ≡ 0
+  pub few : length (t .passages) ≤ 12288
+  pub table : length (t .estimates) ≡ t .n * t .n
+  pub start-in : t .start < t .n
+  pub goal-in : t .goal < t .n
+  pub least : 100 ≤ t .excess
+  pub most : t .excess ≤ 10000
+  pub pulled : t .pull ≤ t .excess
+  pub listed : passagesRight (t .passages) (t .n) ≡ true
+
+-- the first four conditions, each true
+pub record Early (t : Task) : Type 0 where
+  pub first : holds1 t ≡ true
+  pub second : holds2 t ≡ true
+  pub third : holds3 t ≡ true
+  pub fourth : holds4 t ≡ true
+
+-- a ladder that comes to 0 beside a refusal that isn't 0: its condition holds, and the rest comes to 0
+kept : (ok : Bool) (refusal call : ℕ) → (refusal ≡ 0 → ⊥) → provided ok refusal call ≡ 0 → (ok ≡ true) × (call ≡ 0)
+kept true refusal call n e = (refl, e)
+kept false refusal call n e = absurd (n e)
+
+pub early : (t : Task) → earlyFault t ≡ 0 → Early t
+unfolding earlyFault
+early t e =
+    let a = kept (holds1 t) 1 _ (λ q. omega arith) e in
+    let b = kept (holds2 t) 2 _ (λ q. omega arith) (a .1) in
+    let c = kept (holds3 t) 3 _ (λ q. omega arith) (b .1) in
+    let d = kept (holds4 t) 4 0 (λ q. omega arith) (c .1) in
+    record { first = a .0; second = b .0; third = c .0; fourth = d .0 }
+
+pub right : (t : Task) → earlyFault t ≡ 0 → Right t
+unfolding sizesRight endsRight weightsRight
+right t e =
+    let h = early t e in
+    let sizes = and-right (leb 1 (t .n) && leb (t .n) 256) _ (h .first) in
+    let range = and-left (leb 1 (t .n) && leb (t .n) 256) _ (h .first) in
+    let slices = and-right (leb 1 (t .k) && leb (t .k) 32) _ sizes in
+    let passages = and-left (eqb (length (t .passages) % 3) 0 && leb (length (t .passages)) 12288) _ slices in
+    let weights = and-left (leb 100 (t .excess) && leb (t .excess) 10000) _ (h .third) in
+    record {
+      some = leb-true _ _ (and-left (leb 1 (t .n)) _ range);
+      states = leb-true _ _ (and-right (leb 1 (t .n)) _ range);
+      workers = leb-true _ _ (and-right (leb 1 (t .k)) _ (and-left (leb 1 (t .k) && leb (t .k) 32) _ sizes));
+      threes = eqb-true _ _ (and-left (eqb (length (t .passages) % 3) 0) _ passages);
+      few = leb-true _ _ (and-right (eqb (length (t .passages) % 3) 0) _ passages);
+      table = eqb-true _ _ (and-right (eqb (length (t .passages) % 3) 0 && leb (length (t .passages)) 12288) _ slices);
+      start-in = ltb-true _ _ (and-left (ltb (t .start) (t .n)) _ (h .second));
+      goal-in = ltb-true _ _ (and-right (ltb (t .start) (t .n)) _ (h .second));
+      least = leb-true _ _ (and-left (leb 100 (t .excess)) _ weights);
+      most = leb-true _ _ (and-right (leb 100 (t .excess)) _ weights);
+      pulled = leb-true _ _ (and-right (leb 100 (t .excess) && leb (t .excess) 10000) _ (h .third));
+      listed = h .fourth;
+    }
+
+pub whole : (t : Task) → Right t → Whole (t .estimates) (t .n)
+whole t r = record { states = r .states; table = r .table }
+
+-- where 1 to 4 apply to nothing, 5 to 7 decide
+pub fault-late : (t : Task) → earlyFault t ≡ 0 → fault t ≡ provided (holds5 t) 5 (provided (holds6 t) 6 (provided (holds7 t) 7 0))
+unfolding fault
+fault-late t e = let h = early t e in rw (h .first, h .second, h .third, h .fourth)
+
+-- the ladder of 1 to 4, over what stands past it
+abbrev ladder : Bool → Bool → Bool → Bool → ℕ → ℕ
+ladder a b c d late = provided a 1 (provided b 2 (provided c 3 (provided d 4 late)))
+
+-- where it stops, it doesn't depend on that
+ladder-stops : (a b c d : Bool) (late : ℕ) → (ladder a b c d 0 ≡ 0 → ⊥) → ladder a b c d 0 ≡ ladder a b c d late
+ladder-stops false b c d late n = refl
+ladder-stops true false c d late n = refl
+ladder-stops true true false d late n = refl
+ladder-stops true true true false late n = refl
+ladder-stops true true true true late n = absurd (n refl)
+
+-- where one of 1 to 4 applies, it is the one given
+pub fault-early : (t : Task) → (earlyFault t ≡ 0 → ⊥) → earlyFault t ≡ fault t
+unfolding earlyFault fault
+fault-early t n = ladder-stops (holds1 t) (holds2 t) (holds3 t) (holds4 t) _ n
+
+-- what opening accepts passes 1 to 4
+pub fault-none : (t : Task) → fault t ≡ 0 → earlyFault t ≡ 0
+fault-none t z = go (ℕ-discrete (earlyFault t) 0)
+  where
+    go : Dec (earlyFault t ≡ 0) → earlyFault t ≡ 0
+    go (yes e) = e
+    go (no n) = fault-early t n ∙ z
+
+-- of a passage slice that passed check 4
+module _ (passages : List ℕ) (n : ℕ) (e : passagesRight passages n ≡ true) (i : ℕ) (l : i < passageCount passages) where
+  passage-at : passageRight passages n i ≡ true
+  unfolding passagesRight
+  passage-at = all-at (passageRight passages n) (passageCount passages) i e l
+
+  ends-at : (ltb (near passages i) n && ltb (far passages i) n) ≡ true
+  ends-at = and-left _ (leb (cost passages i) 1000000) passage-at
+
+  pub near-in : near passages i < n
+  near-in = ltb-true _ _ (and-left _ (ltb (far passages i) n) ends-at)
+
+  pub far-in : far passages i < n
+  far-in = ltb-true _ _ (and-right (ltb (near passages i) n) _ ends-at)
+
+  pub cost-in : cost passages i ≤ 1000000
+  cost-in = leb-true _ _ (and-right (ltb (near passages i) n && ltb (far passages i) n) _ passage-at)
+
+-- an estimate that is too large settles its row
+pub row-stop : (estimates : List ℕ) (n a b : ℕ) → leb (estimate estimates n a b) 255000000 ≡ false → b < n → false ≡ rowRight estimates n a
+row-stop estimates n a b e l = rw (← all-stop (λ b. leb (estimate estimates n a b) 255000000) b n e l)
+
+-- of a table that passed check 5
+pub estimate-low : (estimates : List ℕ) (n : ℕ) → estimatesRight estimates n ≡ true → (a b : ℕ) → a < n → b < n → estimate estimates n a b ≤ 255000000
+unfolding estimatesRight
+estimate-low estimates n e a b p q =
+    let row : all (λ b. leb (estimate estimates n a b) 255000000) n ≡ true =
+    and-left _ (eqb (estimate estimates n a a) 0) (all-at (rowRight estimates n) n a e p) in
+    leb-true _ _ (all-at (λ b. leb (estimate estimates n a b) 255000000) n b row q)
+
+-- of rows that passed the clauses of "Fits"
+pub label-low : (label : List ℕ) (n : ℕ) → labelsRight label n ≡ true → (s : ℕ) → s < n → getD label s 0 ≤ 255000000
+unfolding labelsRight
+label-low label n e s l = leb-true _ _ (all-at (λ s. leb (getD label s 0) 255000000) n s e l)
+
+pub worker-holds : (mark held : List ℕ) (n k : ℕ) → workersRight mark held n k ≡ true → (w : ℕ) → w < k → (getD held w 0 ≡ none → ⊥)
+    → (getD held w 0 < n) × (isOut (getD mark (getD held w 0) 0) ≡ true)
+unfolding workersRight
+worker-holds mark held n k e w l z =
+    let s = getD held w 0 in
+    ⊎-elim
+    (λ q. absurd (z (eqb-true s none q)))
+    (λ q. (ltb-true s n (and-left (ltb s n) _ q), and-right (ltb s n) (isOut (getD mark s 0)) q))
+    (or-either (eqb s none) (ltb s n && isOut (getD mark s 0)) (all-at (λ w. workerRight mark n (getD held w 0)) k w e l))

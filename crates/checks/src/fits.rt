@@ -1,0 +1,87 @@
+// The clauses of "Fits" on a machine's own numbers, each over the rows that it reads.
+ghost use mathlib.Core.Path.{_≡_};
+ghost use Prim.Native.Nat.{_≤_};
+ghost use Rattle.checks.specs.Fits.{marksRight, labelsRight, workerRight, workersRight, holders, heldOnce};
+
+// Each state below n has one of the marks.
+pub fn marks_right(mark: &[u8; 256], n: usize) -> bool
+    requires { ⌜ n ≤ 256 ⌝ }
+    ensures { λ r. ⌜ r ≡ marksRight (now (mark .entry)) n ⌝ }
+{
+    for s in 0..n {
+        if mark[s] > rule::FINISHED {
+            return false;
+        }
+    }
+    true
+}
+
+// No state below n has a label that is too high.
+pub fn labels_right(label: &[u32; 256], n: usize) -> bool
+    requires { ⌜ n ≤ 256 ⌝ }
+    ensures { λ r. ⌜ r ≡ labelsRight (now (label .entry)) n ⌝ }
+{
+    for s in 0..n {
+        if label[s] > 255000000 {
+            return false;
+        }
+    }
+    true
+}
+
+// A worker that holds this holds nothing, or an out state.
+pub fn worker_right(mark: &[u8; 256], n: usize, held: u16) -> bool
+    requires { ⌜ n ≤ 256 ⌝ }
+    ensures { λ r. ⌜ r ≡ workerRight (now (mark .entry)) n held ⌝ }
+{
+    if held == rule::NONE {
+        return true;
+    }
+    let s = held as usize;
+    if s >= n {
+        return false;
+    }
+    mark[s] == rule::OUT
+}
+
+// Each worker below k does.
+pub fn workers_right<'a>(mark: &'a [u8; 256], held: &'a [u16; 32], n: usize, k: usize) -> bool
+    requires { ⌜ (n ≤ 256) × (k ≤ 32) ⌝ }
+    ensures { λ r. ⌜ r ≡ workersRight (now (mark .entry)) (now (held .entry)) n k ⌝ }
+{
+    for w in 0..k {
+        if !worker_right(mark, n, held[w]) {
+            return false;
+        }
+    }
+    true
+}
+
+// How many workers below k hold s.
+pub fn holders(held: &[u16; 32], k: usize, s: u16) -> usize
+    requires { ⌜ k ≤ 32 ⌝ }
+    ensures { λ r. ⌜ r ≡ holders (now (held .entry)) k s ⌝ }
+{
+    let mut many: usize = 0;
+    for w in 0..k {
+        if held[w] == s {
+            many += 1;
+        }
+    }
+    many
+}
+
+// Each out state is held by exactly one worker below k.
+pub fn held_once<'a>(mark: &'a [u8; 256], held: &'a [u16; 32], n: usize, k: usize) -> bool
+    requires { ⌜ (n ≤ 256) × (k ≤ 32) ⌝ }
+    ensures { λ r. ⌜ r ≡ heldOnce (now (mark .entry)) (now (held .entry)) n k ⌝ }
+{
+    for s in 0..n {
+        if mark[s] == rule::OUT {
+            if holders(held, k, s as u16) != 1 {
+                return false;
+            }
+        }
+    }
+    true
+}

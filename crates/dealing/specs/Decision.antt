@@ -1,0 +1,20 @@
+-- "Take(worker), first that holds": which of the five steps it is, with the number that the step names.
+use mathlib.Core.Bool.{_&&_, not, cond}
+use Prim.Native.Nat.{ℕ}
+use lib.Dec.{ltb}
+use Rattle.dealing.specs.declared.Decision.{Decision}
+use Rattle.dealing.specs.declared.Decision.the-variants.{Found, NoPath, Deal, Stuck, Wait}
+use Rattle.dealing.specs.Board.{Board, labelAt, safe, choice, anyOpen, anyOut}
+
+-- 1 "the goal is open and safe: Found with its label"
+-- 2 "nothing is open or out: NoPath"
+-- 3 "some open state is safe: Took the one with the smallest key, the lowest number among equals"
+-- 4 "nothing is out: refusal 12"
+-- 5 "otherwise Wait"
+unfoldable pub decision : ℕ → ℕ → Board → Decision
+decision goal pull b =
+    cond (safe b goal) (Found (labelAt b goal))
+    (cond (not (anyOpen b) && not (anyOut b)) NoPath
+    (cond (ltb (choice goal pull b) (b .n)) (Deal (choice goal pull b))
+    (cond (not (anyOut b)) Stuck
+    Wait)))

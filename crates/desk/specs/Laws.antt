@@ -1,0 +1,226 @@
+-- What the inner functions of the calls ask, what a machine that fits gives them, and what Bring's loop knows.
+use mathlib.Core.Path.{_≡_, refl, sym, ap, subst⁻¹, _∙_}
+use mathlib.Core.Bool.{Bool, true, false}
+use mathlib.Core.List.{List, _++_}
+use Prim.Native.Nat.{ℕ, _+_, _-_, _≤_, _<_}
+use native.Mathlib.Omega.{arith}
+use lib.ListN.{length, getD, drop}
+use lib.Dec.{ltb, eqb}
+use borrow.Author.Tests.{eqb-true, ltb-true, eq-eqb, ne-eqb, lt-ltb, le-leb, lt-leb}
+use borrow.Rule.Slice.PartMut.{midOf, putMid}
+use Rattle.laws.specs.Truth.{and-left, and-right, provided}
+use Rattle.laws.specs.Fold.{fold, fold-zero, fold-more}
+use Rattle.laws.specs.Part.{overlaid, put-overlaid}
+use Rattle.rule.specs.Task.{passageCount, near, far, cost}
+use Rattle.rule.specs.Marks.{none}
+use Rattle.rule.specs.Rule.{lowers}
+use Rattle.checks.specs.Opening.{Task, earlyFault, fault}
+use Rattle.checks.specs.Fits.{phaseRight, marksRight, labelsRight, workersRight}
+use Rattle.checks.specs.Laws.{Right, right, fault-none, near-in, far-in, cost-in, label-low, worker-holds}
+use Rattle.dealing.specs.Board.{Board}
+use Rattle.dealing.specs.Decision.{decision}
+use Rattle.dealing.specs.Laws.{deal-in}
+use Rattle.dealing.specs.declared.Decision.{Decision}
+use Rattle.dealing.specs.declared.Decision.the-variants.{Found, NoPath, Deal, Stuck, Wait}
+use Rattle.trail.specs.Trail.{pathLength, path, statesBack}
+use Rattle.trail.specs.Laws.{Inside, Followed, path-followed, states-length}
+use Rattle.desk.specs.declared.Machine.{Machine}
+use Rattle.desk.specs.declared.Reply.the-variants.{Read}
+use Rattle.desk.specs.Machine.{taskOf, trailOf, labelOf, heldBy}
+use Rattle.desk.specs.declared.Answer.{Answer}
+use Rattle.desk.specs.Reply.{answer, refused}
+use Rattle.desk.specs.Fits.{fits}
+use Rattle.desk.specs.Admission.{admitted, callFault}
+use Rattle.desk.specs.Bring.{swept, labelled, applyPassage, sweepOf}
+use Rattle.desk.specs.Path.{pathOf, unread}
+
+-- a task that opening accepts starts at a place of the rows
+pub start-in : (t : Task) → fault t ≡ 0 → t .start < 256
+start-in t e =
+    let r = right t (fault-none t e) in
+    omega (arith, r .start-in, r .states)
+
+-- a machine that fits, as facts
+pub record Fitting (m : Machine) (passages estimates : List ℕ) : Type 0 where
+  pub task : Right (taskOf m passages estimates)
+  pub labels : labelsRight (m .label) (m .n) ≡ true
+  pub workers : workersRight (m .mark) (m .held) (m .n) (m .k) ≡ true
+
+pub fitting : (m : Machine) (passages estimates : List ℕ) → fits m passages estimates ≡ true → Fitting m passages estimates
+unfolding fits
+fitting m passages estimates e =
+    let e₁ = and-right (eqb (earlyFault (taskOf m passages estimates)) 0) _ e in
+    let e₂ = and-right (phaseRight (m .phase)) _ e₁ in
+    let e₃ = and-right (marksRight (m .mark) (m .n)) _ e₂ in
+    let e₄ = and-right (labelsRight (m .label) (m .n)) _ e₃ in
+    record {
+      task = right (taskOf m passages estimates) (eqb-true _ 0 (and-left _ _ e));
+      labels = and-left _ _ e₃;
+      workers = and-left _ _ e₄;
+    }
+
+-- what is known once none of 8, 9 and 10 applies
+pub record Admitted (m : Machine) (passages estimates : List ℕ) (worker : ℕ) : Type 0 where
+  pub fit : fits m passages estimates ≡ true
+  pub worker-in : worker < m .k
+  pub searching : m .phase ≡ 0
+
+-- the ladder of 8, 9 and 10 over what the three conditions come to
+abbrev ladder : Bool → Bool → Bool → ℕ
+ladder a b c = provided a 8 (provided b 9 (provided c 10 0))
+
+ladder-clear : (a b c : Bool) → ladder a b c ≡ 0 → (a ≡ true) × ((b ≡ true) × (c ≡ true))
+ladder-clear true true true e = (refl, (refl, refl))
+ladder-clear true true false e = absurd (omega arith)
+ladder-clear true false c e = absurd (omega arith)
+ladder-clear false b c e = absurd (omega arith)
+
+module _ (m : Machine) (passages estimates : List ℕ) (worker : ℕ) where
+  pub call-admitted : callFault m passages estimates worker ≡ 0 → Admitted m passages estimates worker
+  unfolding callFault
+  call-admitted e =
+      let h = ladder-clear (fits m passages estimates) (ltb worker (m .k)) (eqb (m .phase) 0) e in
+      record { fit = h .0; worker-in = ltb-true worker (m .k) (h .1 .0); searching = eqb-true (m .phase) 0 (h .1 .1) }
+
+  -- a call that is turned away, one whose worker's hands aren't ready, and one that goes on
+  module _ (ready : Bool) (call : Answer) where
+    pub turned-away : (callFault m passages estimates worker ≡ 0 → ⊥) → refused m (callFault m passages estimates worker) ≡ admitted m passages estimates worker ready call
+    unfolding callFault admitted
+    turned-away = go (fits m passages estimates) (ltb worker (m .k)) (eqb (m .phase) 0)
+      where
+        go : (a b c : Bool) → (ladder a b c ≡ 0 → ⊥)
+            → refused m (ladder a b c) ≡ provided a (refused m 8) (provided b (refused m 9) (provided c (refused m 10) (provided ready (refused m 11) call)))
+        go false b c n = refl
+        go true false c n = refl
+        go true true false n = refl
+        go true true true n = absurd (n refl)
+
+    pub not-ready : Admitted m passages estimates worker → ready ≡ false → refused m 11 ≡ admitted m passages estimates worker ready call
+    unfolding admitted
+    not-ready a r = rw (a .fit, lt-ltb worker (m .k) (a .worker-in), eq-eqb (m .phase) 0 (a .searching), r)
+
+    pub goes-on : Admitted m passages estimates worker → ready ≡ true → call ≡ admitted m passages estimates worker ready call
+    unfolding admitted
+    goes-on a r = rw (a .fit, lt-ltb worker (m .k) (a .worker-in), eq-eqb (m .phase) 0 (a .searching), r)
+
+-- a state that is dealt has a place in the rows
+abbrev pub Dealable : Decision → Type 0
+Dealable (Found cost) = Unit {0}
+Dealable NoPath = Unit {0}
+Dealable (Deal s) = s < 256
+Dealable Stuck = Unit {0}
+Dealable Wait = Unit {0}
+
+pub dealable : (goal pull : ℕ) (b : Board) → b .n ≤ 256 → Dealable (decision goal pull b)
+dealable goal pull b l = go (decision goal pull b) (λ s e. omega (arith, deal-in goal pull b s e))
+  where
+    go : (d : Decision) → ((s : ℕ) → d ≡ Deal s → s < 256) → Dealable d
+    go (Found cost) f = tt
+    go NoPath f = tt
+    go (Deal s) f = f s refl
+    go Stuck f = tt
+    go Wait f = tt
+
+-- the state s can be brought: far ends have places in the rows, and label + cost fits 32 bits
+pub record Carried (m : Machine) (passages : List ℕ) (s : ℕ) : Type 0 where
+  pub few : length passages ≤ 12288
+  pub state : s < 256
+  pub low : labelOf m s ≤ 255000000
+  pub fars : (i : ℕ) → i < passageCount passages → far passages i < 256
+  pub costs : (i : ℕ) → i < passageCount passages → cost passages i ≤ 1000000
+
+pub carried : (m : Machine) (passages estimates : List ℕ) (worker : ℕ) → Fitting m passages estimates → worker < m .k → (heldBy m worker ≡ none → ⊥) → Carried m passages (heldBy m worker)
+carried m passages estimates worker f l h =
+    let s = worker-holds (m .mark) (m .held) (m .n) (m .k) (f .workers) worker l h in
+    record {
+      few = f .task .few;
+      state = omega (arith, s .0, f .task .states);
+      low = label-low (m .label) (m .n) (f .labels) (heldBy m worker) (s .0);
+      fars = λ i q. omega (arith, far-in passages (m .n) (f .task .listed) i q, f .task .states);
+      costs = λ i q. cost-in passages (m .n) (f .task .listed) i q;
+    }
+
+-- the passages of a machine that fits come from places of the rows
+pub inside : (m : Machine) (passages estimates : List ℕ) → Fitting m passages estimates → Inside passages
+inside m passages estimates f i l = omega (arith, near-in passages (m .n) (f .task .listed) i l, f .task .states)
+
+-- what Bring's loop knows at passage i: the machine and the count are those of the fold so far
+pub record Run (m₀ m : Machine) (passages : List ℕ) (s many i : ℕ) : Type 0 where
+  pub done : swept m many ≡ fold (applyPassage passages s (labelOf m₀ s)) (swept m₀ 0) i
+  pub within : i ≤ passageCount passages
+  pub counted : many ≤ i
+
+pub run-zero : (m : Machine) (passages : List ℕ) (s : ℕ) → Run m m passages s 0 0
+run-zero m passages s = record { done = sym (fold-zero (applyPassage passages s (labelOf m s)) _); within = omega arith; counted = omega arith }
+
+pub run-end : (m₀ m : Machine) (passages : List ℕ) (s many i : ℕ) → Run m₀ m passages s many i → passageCount passages ≤ i → swept m many ≡ sweepOf m₀ passages s
+unfolding sweepOf
+run-end m₀ m passages s many i r l = let q : i ≡ passageCount passages = omega arith in rw (← q) (r .done)
+
+module _ (m₀ m : Machine) (passages : List ℕ) (s many i : ℕ) (r : Run m₀ m passages s many i) (l : i < passageCount passages) where
+  more : (m′ : Machine) (many′ : ℕ) → many′ ≤ many + 1 → swept m′ many′ ≡ applyPassage passages s (labelOf m₀ s) i (swept m many) → Run m₀ m′ passages s many′ (i + 1)
+  more m′ many′ h e = record {
+    done = e ∙ ap (applyPassage passages s (labelOf m₀ s) i) (r .done) ∙ sym (fold-more (applyPassage passages s (labelOf m₀ s)) _ i);
+    within = omega arith;
+    counted = omega (arith, r .counted);
+  }
+
+  -- the passage is another state's
+  pub run-skip : (near passages i ≡ s → ⊥) → Run m₀ m passages s many (i + 1)
+  unfolding applyPassage
+  run-skip n = more m many (omega arith) (rw (ne-eqb (near passages i) s n))
+
+  -- the passage is the held state's: its far end keeps its label, or gets the sum
+  module _ (e : near passages i ≡ s) (end sum : ℕ) (et : end ≡ far passages i) (es : sum ≡ labelOf m₀ s + cost passages i) where
+    pub run-kept : lowers (getD (m .mark) end 0) (labelOf m end) sum ≡ false → Run m₀ m passages s many (i + 1)
+    unfolding applyPassage
+    run-kept h = more m many (omega arith) (rw (eq-eqb (near passages i) s e, ← et, ← es, h))
+
+    pub run-set : lowers (getD (m .mark) end 0) (labelOf m end) sum ≡ true → Run m₀ (labelled m end sum i) passages s (many + 1) (i + 1)
+    unfolding applyPassage
+    run-set h = more (labelled m end sum i) (many + 1) (omega arith) (rw (eq-eqb (near passages i) s e, ← et, ← es, h))
+
+-- path reading, by what it finds
+module _ (m : Machine) (passages estimates buffer : List ℕ) (at : ℕ) where
+  pub path-unfit : fits m passages estimates ≡ false → pathOf m passages estimates buffer at ≡ unread m buffer 8
+  unfolding pathOf
+  path-unfit f = rw f
+
+  module _ (f : fits m passages estimates ≡ true) where
+    pub path-early : (m .phase ≡ 1 → ⊥) → pathOf m passages estimates buffer at ≡ unread m buffer 13
+    unfolding pathOf
+    path-early p = rw (f, ne-eqb (m .phase) 1 p)
+
+    module _ (p : m .phase ≡ 1) (many : ℕ) (q : many ≡ pathLength (trailOf m passages)) where
+      pub path-broken : many ≡ 0 → pathOf m passages estimates buffer at ≡ unread m buffer 14
+      unfolding pathOf
+      path-broken z = rw (f, eq-eqb (m .phase) 1 p, ← q, eq-eqb many 0 z)
+
+      module _ (z : many ≡ 0 → ⊥) where
+        pub path-short : length buffer - at < many → pathOf m passages estimates buffer at ≡ unread m buffer 15
+        unfolding pathOf
+        path-short l = rw (f, eq-eqb (m .phase) 1 p, ← q, ne-eqb many 0 z, lt-leb many (length buffer - at) l)
+
+        pub path-read : many ≤ length buffer - at
+            → pathOf m passages estimates buffer at ≡ record { given = answer m (Read many); buffer = overlaid at (path (trailOf m passages)) buffer }
+        unfolding pathOf
+        path-read l = rw (f, eq-eqb (m .phase) 1 p, ← q, ne-eqb many 0 z, le-leb many (length buffer - at) l)
+
+        -- the path can be followed and written
+        pub path-way : Followed passages (m .via) (m .goal) many
+        path-way =
+            let h = fitting m passages estimates f in
+            subst⁻¹ (λ (k : ℕ). Followed passages (m .via) (m .goal) k) q
+            (path-followed (trailOf m passages) (inside m passages estimates h) (omega (arith, h .task .goal-in, h .task .states)) (λ e. z (q ∙ e)))
+
+-- the part that was lent for the path, written and back in the buffer
+pub path-written : (m : Machine) (passages buffer part : List ℕ) (at many : ℕ) → many ≡ pathLength (trailOf m passages)
+    → part ≡ statesBack passages (m .via) (m .goal) many ++ drop many (midOf at (length buffer - at) buffer)
+    → putMid at (length buffer - at) buffer part ≡ overlaid at (path (trailOf m passages)) buffer
+path-written m passages buffer part at many q e =
+    ap (putMid at (length buffer - at) buffer) (e ∙ ap (λ (k : ℕ). written many ++ drop k (midOf at (length buffer - at) buffer)) (sym (states-length passages (m .via) (m .goal) many)))
+    ∙ put-overlaid at buffer (written many)
+    ∙ ap (λ (k : ℕ). overlaid at (written k) buffer) q
+  where
+    written : ℕ → List ℕ
+    written k = statesBack passages (m .via) (m .goal) k

@@ -1,0 +1,43 @@
+-- "The machine": its fields, each written by a setter of its own, and what the other definitions read off it.
+-- A field more changes this file, and the two whole machines of Opening.
+use mathlib.Core.List.{List}
+use Prim.Native.Nat.{ℕ}
+use lib.ListN.{getD, set}
+use Rattle.checks.specs.Opening.{Task, task}
+use Rattle.dealing.specs.Board.{Board, board}
+use Rattle.trail.specs.Trail.{Trail, trail}
+use Rattle.desk.specs.declared.Machine.{Machine}
+
+abbrev pub withPhase : Machine → ℕ → Machine
+withPhase m p = record { n = m .n; k = m .k; start = m .start; goal = m .goal; pull = m .pull; excess = m .excess; phase = p; mark = m .mark; label = m .label; via = m .via; held = m .held }
+
+abbrev pub withMark : Machine → ℕ → ℕ → Machine
+withMark m s k = record { n = m .n; k = m .k; start = m .start; goal = m .goal; pull = m .pull; excess = m .excess; phase = m .phase; mark = set (m .mark) s k; label = m .label; via = m .via; held = m .held }
+
+abbrev pub withLabel : Machine → ℕ → ℕ → Machine
+withLabel m s l = record { n = m .n; k = m .k; start = m .start; goal = m .goal; pull = m .pull; excess = m .excess; phase = m .phase; mark = m .mark; label = set (m .label) s l; via = m .via; held = m .held }
+
+abbrev pub withVia : Machine → ℕ → ℕ → Machine
+withVia m s i = record { n = m .n; k = m .k; start = m .start; goal = m .goal; pull = m .pull; excess = m .excess; phase = m .phase; mark = m .mark; label = m .label; via = set (m .via) s i; held = m .held }
+
+abbrev pub withHeld : Machine → ℕ → ℕ → Machine
+withHeld m w s = record { n = m .n; k = m .k; start = m .start; goal = m .goal; pull = m .pull; excess = m .excess; phase = m .phase; mark = m .mark; label = m .label; via = m .via; held = set (m .held) w s }
+
+-- the state that a worker holds, or `none`
+abbrev pub heldBy : Machine → ℕ → ℕ
+heldBy m w = getD (m .held) w 0
+
+abbrev pub labelOf : Machine → ℕ → ℕ
+labelOf m s = getD (m .label) s 0
+
+-- the machine's numbers with the two lent slices, as a task
+abbrev pub taskOf : Machine → List ℕ → List ℕ → Task
+taskOf m passages estimates = task (m .n) (m .k) (m .start) (m .goal) (m .pull) (m .excess) passages estimates
+
+-- what the rule of Take compares
+abbrev pub boardOf : Machine → List ℕ → Board
+boardOf m estimates = board (m .n) (m .excess) estimates (m .mark) (m .label)
+
+-- what path reading goes back over
+abbrev pub trailOf : Machine → List ℕ → Trail
+trailOf m passages = trail (m .n) (m .start) (m .goal) passages (m .label) (m .via)

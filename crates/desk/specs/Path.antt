@@ -1,0 +1,32 @@
+-- "Path reading": its reply and every place of the caller's buffer, with the refusals 8, 13, 14 and 15.
+use mathlib.Core.Bool.{not}
+use mathlib.Core.List.{List}
+use Prim.Native.Nat.{ℕ, _-_}
+use lib.ListN.{length}
+use lib.Dec.{leb, eqb}
+use Rattle.laws.specs.Truth.{provided}
+use Rattle.laws.specs.Part.{overlaid}
+use Rattle.trail.specs.Trail.{pathLength, path}
+use Rattle.desk.specs.declared.Machine.{Machine}
+use Rattle.desk.specs.declared.Reply.the-variants.{Read}
+use Rattle.desk.specs.declared.Answer.{Answer}
+use Rattle.desk.specs.Machine.{trailOf}
+use Rattle.desk.specs.Reply.{answer, refused}
+use Rattle.desk.specs.Fits.{fits}
+
+-- what is handed back, and what the caller's buffer then holds
+pub record Reading : Type 0 where
+  pub given : Answer
+  pub buffer : List ℕ
+
+abbrev pub unread : Machine → List ℕ → ℕ → Reading
+unread m buffer number = record { given = refused m number; buffer = buffer }
+
+-- 8 "task or machine doesn't fit"; 13 "phase isn't 1"; 14 going back fails; 15 "fewer places from the named place to the buffer's end than the path has; a place past the end leaves none"
+unfoldable pub pathOf : Machine → List ℕ → List ℕ → List ℕ → ℕ → Reading
+pathOf m passages estimates buffer at =
+    provided (fits m passages estimates) (unread m buffer 8)
+    (provided (eqb (m .phase) 1) (unread m buffer 13)
+    (provided (not (eqb (pathLength (trailOf m passages)) 0)) (unread m buffer 14)
+    (provided (leb (pathLength (trailOf m passages)) (length buffer - at)) (unread m buffer 15)
+    (record { given = answer m (Read (pathLength (trailOf m passages))); buffer = overlaid at (path (trailOf m passages)) buffer }))))

@@ -1,0 +1,33 @@
+-- "Take(worker)": what each of its five steps does to the machine, and the refusals 8 to 11 before them.
+use mathlib.Core.List.{List}
+use Prim.Native.Nat.{ℕ}
+use lib.Dec.{eqb}
+use Rattle.rule.specs.Marks.{out, none}
+use Rattle.dealing.specs.declared.Decision.{Decision}
+use Rattle.dealing.specs.declared.Decision.the-variants.{Found as FoundAt, NoPath as NoPathLeft, Deal, Stuck, Wait as WaitOn}
+use Rattle.dealing.specs.Decision.{decision}
+use Rattle.desk.specs.declared.Machine.{Machine}
+use Rattle.desk.specs.declared.Reply.the-variants.{Took, Found, NoPath, Wait}
+use Rattle.desk.specs.declared.Answer.{Answer}
+use Rattle.desk.specs.Machine.{withPhase, withMark, withHeld, heldBy, boardOf}
+use Rattle.desk.specs.Reply.{answer, refused}
+use Rattle.desk.specs.Admission.{admitted}
+
+-- "its mark becomes out, the worker holds it"
+abbrev pub dealt : Machine → ℕ → ℕ → Machine
+dealt m worker s = withHeld (withMark m s out) worker s
+
+-- 1 "Found with its label, phase 1"; 2 "NoPath, phase 2"; 3 "Took"; 4 "refusal 12"; 5 "Wait, machine unchanged"
+abbrev pub act : Machine → ℕ → Decision → Answer
+act m worker (FoundAt cost) = answer (withPhase m 1) (Found cost)
+act m worker NoPathLeft = answer (withPhase m 2) NoPath
+act m worker (Deal s) = answer (dealt m worker s) (Took s)
+act m worker Stuck = refused m 12
+act m worker WaitOn = answer m Wait
+
+unfoldable pub takeStep : Machine → List ℕ → ℕ → Answer
+takeStep m estimates worker = act m worker (decision (m .goal) (m .pull) (boardOf m estimates))
+
+-- 11 "Take: worker already holds a state"
+unfoldable pub takeOf : Machine → List ℕ → List ℕ → ℕ → Answer
+takeOf m passages estimates worker = admitted m passages estimates worker (eqb (heldBy m worker) none) (takeStep m estimates worker)

@@ -1,0 +1,46 @@
+// The route desk: a machine that deals junction states out to workers and takes them back, one call at a time.
+// The calls are Machine::opening, take, bring and path. Each is defined for every input.
+mod bring;
+mod fits;
+mod opening;
+mod path;
+mod take;
+
+// n, k, start, goal, W and E of the task; the phase, 0 searching, 1 found, 2 no path; for each state a mark, a label
+// and the number of the passage that the label came by; for each worker the state that it holds.
+pub struct Machine {
+    pub n: usize,
+    pub k: usize,
+    pub start: usize,
+    pub goal: usize,
+    pub pull: u16,
+    pub excess: u16,
+    pub phase: u8,
+    pub mark: [u8; 256],
+    pub label: [u32; 256],
+    pub via: [u16; 256],
+    pub held: [u16; 32],
+}
+
+pub enum Reply {
+    Opened,
+    Took(usize),
+    Brought(u32),
+    Found(u32),
+    NoPath,
+    Wait,
+    Read(usize),
+    Refused(u8),
+}
+
+// The machine that a call hands back, with its reply beside it.
+pub struct Answer {
+    pub machine: Machine,
+    pub reply: Reply,
+}
+
+// A pass over passages that has come so far: the machine, and how many times a label was set or lowered.
+pub struct Swept {
+    pub machine: Machine,
+    pub many: u32,
+}

@@ -1,0 +1,36 @@
+// Path reading: the states from start to goal, into the caller's buffer from a named place on.
+ghost use mathlib.Core.Path.{_≡_};
+ghost use Rattle.desk.specs.Path.{pathOf};
+use super::Answer;
+use super::Machine;
+use super::Reply;
+use super::fits;
+
+impl Machine {
+    pub fn path(self, passages: &[u32], estimates: &[u32], buffer: &mut [u16], at: usize) -> Answer
+        ensures { λ r. ⌜ (r ≡ pathOf self (now (passages .entry)) (now (estimates .entry)) (now (buffer .entry)) at .given) × (now (buffer .exit) ≡ pathOf self (now (passages .entry)) (now (estimates .entry)) (now (buffer .entry)) at .buffer) ⌝ }
+    {
+        if !fits::fits(self, passages, estimates) {
+            return fits::refused(self, 8);
+        }
+        if self.phase != 1 {
+            return fits::refused(self, 13);
+        }
+        let goal = self.goal;
+        let count = trail::path_length(&self.label, &self.via, passages, self.n, self.start, goal);
+        if count == 0 {
+            return fits::refused(self, 14);
+        }
+        if at > buffer.len() {
+            return fits::refused(self, 15);
+        }
+        if count > buffer.len() - at {
+            return fits::refused(self, 15);
+        }
+        trail::write_back(&mut buffer[at..], &self.via, passages, goal, count);
+        Answer {
+            machine: self,
+            reply: Reply::Read(count),
+        }
+    }
+}

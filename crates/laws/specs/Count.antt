@@ -1,0 +1,112 @@
+-- A count: how many numbers below n pass a test.
+-- Assumes nothing.
+use mathlib.Core.Path.{_≡_, refl, sym, ap, _∙_}
+use mathlib.Core.Logic.{_≢_}
+use mathlib.Core.Bool.{Bool, true, false, not, _&&_}
+use Prim.Native.Nat.{ℕ, zero, suc, _+_, _≤_, _<_}
+use native.Mathlib.Decide.{ℕ-discrete}
+use native.Mathlib.Numerals.{add-one}
+use native.Mathlib.Omega.{arith}
+use lib.Dec.{eqb}
+use borrow.Author.Tests.{eq-eqb, ne-eqb}
+use Rattle.laws.specs.Truth.{and-both, and-false}
+
+-- 1 where a test passes
+abbrev pub one : Bool → ℕ
+one true = 1
+one false = 0
+
+-- how many numbers below n pass p
+unfoldable pub count : (ℕ → Bool) → ℕ → ℕ
+count p zero = 0
+count p (suc i) = one (p i) + count p i
+
+-- one turn of a loop that counts
+module _ (p : ℕ → Bool) where
+  pub count-zero : count p 0 ≡ 0
+  unfolding count
+  count-zero = refl
+
+  pub count-yes : (i : ℕ) → p i ≡ true → count p (i + 1) ≡ count p i + 1
+  unfolding count
+  count-yes i h = rw (add-one i, h) (omega arith)
+
+  pub count-no : (i : ℕ) → p i ≡ false → count p (i + 1) ≡ count p i
+  unfolding count
+  count-no i h = rw (add-one i, h) (omega arith)
+
+pub one-le : (a b : Bool) → (a ≡ true → b ≡ true) → one a ≤ one b
+one-le false b f = omega arith
+one-le true b f = rw (f refl) (omega arith)
+
+pub one-max : (a : Bool) → one a ≤ 1
+one-max false = omega arith
+one-max true = omega arith
+
+-- at most n; no fewer where more pass; more where one more passes; fewer than n where one fails
+pub count-max : (p : ℕ → Bool) (n : ℕ) → count p n ≤ n
+unfolding count
+count-max p zero = omega arith
+count-max p (suc n) = omega (arith, count-max p n, one-max (p n))
+
+pub count-le : (p q : ℕ → Bool) (n : ℕ) → ((x : ℕ) → x < n → p x ≡ true → q x ≡ true) → count p n ≤ count q n
+unfolding count
+count-le p q zero f = omega arith
+count-le p q (suc n) f = omega (arith, count-le p q n (λ x l. f x (omega arith)), one-le (p n) (q n) (f n (omega arith)))
+
+pub count-lt : (p q : ℕ → Bool) (n s : ℕ) → ((x : ℕ) → x < n → p x ≡ true → q x ≡ true) → s < n → p s ≡ false → q s ≡ true → count p n < count q n
+unfolding count
+count-lt p q zero s f l a b = omega arith
+count-lt p q (suc n) s f l a b = go (λ k. count-lt p q n s (λ x l. f x (omega arith)) k a b) (ℕ-discrete s n)
+  where
+    go : (s < n → count p n < count q n) → Dec (s ≡ n) → count p (suc n) < count q (suc n)
+    go ih (yes e) = rw (rw e at a, rw e at b) (omega (arith, count-le p q n (λ x l. f x (omega arith))))
+    go ih (no d) = omega (arith, ih (omega arith), one-le (p n) (q n) (f n (omega arith)))
+
+pub count-short : (p : ℕ → Bool) (n s : ℕ) → s < n → p s ≡ false → count p n < n
+count-short p n s l a = omega (arith, count-lt p (λ _. true) n s (λ x l e. refl) l a refl, count-max (λ _. true) n)
+
+pub count-eq : (p q : ℕ → Bool) (n : ℕ) → ((x : ℕ) → x < n → p x ≡ q x) → count p n ≡ count q n
+count-eq p q n f = omega (arith, count-le p q n (λ x l e. sym (f x l) ∙ e), count-le q p n (λ x l e. f x l ∙ e))
+
+pub count-none : (p : ℕ → Bool) (n : ℕ) → ((x : ℕ) → x < n → p x ≡ false) → count p n ≡ 0
+unfolding count
+count-none p zero f = refl
+count-none p (suc n) f = rw (f n (omega arith)) (omega (arith, count-none p n (λ x l. f x (omega arith))))
+
+-- one more passes, and nothing else changed
+pub count-suc : (p q : ℕ → Bool) (n i : ℕ) → i < n → p i ≡ false → q i ≡ true → ((x : ℕ) → x < n → x ≢ i → p x ≡ q x) → count q n ≡ suc (count p n)
+unfolding count
+count-suc p q zero i l a b f = absurd (omega arith)
+count-suc p q (suc n) i l a b f = go (λ k. count-suc p q n i k a b (λ x l. f x (omega arith))) (ℕ-discrete i n)
+  where
+    go : (i < n → count q n ≡ suc (count p n)) → Dec (i ≡ n) → count q (suc n) ≡ suc (count p (suc n))
+    go ih (yes e) = rw (rw e at a, rw e at b) (omega (arith, count-eq p q n (λ x l. f x (omega arith) (omega arith))))
+    go ih (no d) = rw (f n (omega arith) (λ q. d (sym q))) (omega (arith, ih (omega arith)))
+
+-- one alone passes: two that pass are the same
+pub count-only : (p : ℕ → Bool) (n i j : ℕ) → count p n ≡ 1 → i < n → j < n → p i ≡ true → p j ≡ true → i ≡ j
+count-only p n i j e l k a b = go (ℕ-discrete i j)
+  where
+    r : ℕ → Bool
+    r x = p x && not (eqb x i)
+
+    q : ℕ → Bool
+    q x = r x && not (eqb x j)
+
+    at-i : r i ≡ false
+    at-i = rw (a, eq-eqb i i refl)
+
+    at-j : q j ≡ false
+    at-j = rw (eq-eqb j j refl) (and-false (r j))
+
+    keep : (c d : Bool) → d ≡ true → c && d ≡ c
+    keep true d f = f
+    keep false d f = refl
+
+    one-less : count p n ≡ suc (count r n)
+    one-less = count-suc r p n i l at-i a (λ x m d. keep (p x) (not (eqb x i)) (ap not (ne-eqb x i d)))
+
+    go : Dec (i ≡ j) → i ≡ j
+    go (yes z) = z
+    go (no z) = absurd (omega (arith, one-less, count-suc q r n j k at-j (and-both b (ap not (ne-eqb j i (λ y. z (sym y))))) (λ x m d. keep (r x) (not (eqb x j)) (ap not (ne-eqb x j d)))))

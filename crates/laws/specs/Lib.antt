@@ -1,0 +1,11 @@
+-- Definitions of bounded loops and their laws, with the laws on truth values, signed differences, tables and parts of lists that the proofs share.
+-- Nothing here knows of a desk.
+pub mod Truth
+pub mod Fold
+pub mod First
+pub mod Least
+pub mod Count
+pub mod All
+pub mod Table
+pub mod Difference
+pub mod Part

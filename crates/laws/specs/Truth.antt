@@ -1,0 +1,34 @@
+-- Truth values: conjunctions taken apart and put together, and the ladder of refusals.
+-- Assumes nothing.
+use mathlib.Core.Path.{_≡_, refl}
+use mathlib.Core.Bool.{Bool, true, false, _&&_, _||_, false≢true}
+use mathlib.Core.Logic.{_⊎_, inl, inr}
+
+pub and-left : (a b : Bool) → (a && b) ≡ true → a ≡ true
+and-left true b e = refl
+and-left false b e = e
+
+pub and-right : (a b : Bool) → (a && b) ≡ true → b ≡ true
+and-right true b e = e
+and-right false b e = absurd (false≢true e)
+
+pub and-both : {a b : Bool} → a ≡ true → b ≡ true → (a && b) ≡ true
+and-both {a} {b} p q = rw (p, q)
+
+pub and-false : (b : Bool) → (b && false) ≡ false
+and-false true = refl
+and-false false = refl
+
+pub or-either : (a b : Bool) → (a || b) ≡ true → (a ≡ true) ⊎ (b ≡ true)
+or-either true b e = inl refl
+or-either false b e = inr e
+
+-- "The first that applies is given": what a call comes to, provided that a condition holds; else the refusal beside it.
+abbrev pub provided : {A : Type 0} → Bool → A → A → A
+provided true refusal call = call
+provided false refusal call = refusal
+
+-- what holds of the refusal, and of the call where the condition holds, holds of both together
+pub provided-either : {A : Type 0} (P : A → Type 0) (ok : Bool) (refusal call : A) → P refusal → (ok ≡ true → P call) → P (provided ok refusal call)
+provided-either P true refusal call r c = c refl
+provided-either P false refusal call r c = r

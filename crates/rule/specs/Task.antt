@@ -1,0 +1,27 @@
+-- "The task and its bounds": how the numbers of the two lent slices are read.
+use mathlib.Core.Path.{_≡_}
+use mathlib.Core.List.{List}
+use Prim.Native.Nat.{ℕ, _+_, _*_, _/_, _≤_}
+use lib.ListN.{length, getD}
+
+-- "Passages: a lent slice of u32 numbers, three to a passage (from, to, cost), passages numbered from 0 in slice order"
+abbrev pub passageCount : List ℕ → ℕ
+passageCount passages = length passages / 3
+
+abbrev pub near : List ℕ → ℕ → ℕ
+near passages i = getD passages (3 * i) 0
+
+abbrev pub far : List ℕ → ℕ → ℕ
+far passages i = getD passages (3 * i + 1) 0
+
+abbrev pub cost : List ℕ → ℕ → ℕ
+cost passages i = getD passages (3 * i + 2) 0
+
+-- "Estimates: a lent slice of n × n u32 numbers, h(a,b) at a × n + b"
+abbrev pub estimate : List ℕ → ℕ → ℕ → ℕ → ℕ
+estimate estimates n a b = getD estimates (a * n + b) 0
+
+-- the table is whole: what reading a cell asks
+pub record Whole (estimates : List ℕ) (n : ℕ) : Type 0 where
+  pub states : n ≤ 256
+  pub table : length estimates ≡ n * n

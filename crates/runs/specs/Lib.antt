@@ -1,0 +1,2 @@
+-- The starred runs of document 01.
+pub mod Runs
