@@ -110,7 +110,8 @@ pub fn decide<'a>(
     ensures { λ r. ⌜ r ≡ decision goal pull (board n excess (now (estimates .entry)) (now (mark .entry)) (now (label .entry))) ⌝ }
 {
     if mark[goal] == rule::OPEN {
-        if first_dependence(mark, label, estimates, n, excess, goal) == n {
+        let first = first_dependence(mark, label, estimates, n, excess, goal);
+        if first == n {
             return Decision::Found(label[goal]);
         }
     }

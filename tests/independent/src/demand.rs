@@ -1,0 +1,107 @@
+//! What demand 3 asks of the calls on a task that opening accepted, checked
+//! with an own Dijkstra: no state is dealt twice; a found path is a chain of the
+//! task's passages from start to goal that adds up to its cost, and 100 * cost is
+//! at most E * shortest; NoPath is given only where there is no route.
+
+use crate::desk::{Reply, Task, MAX_STATES};
+use crate::rows::VIAS;
+
+/// Follows the replies to one task's calls.
+pub struct Watch<'a> {
+    task: &'a Task,
+    shortest: Option<u64>,
+    dealt: [bool; MAX_STATES],
+}
+
+impl<'a> Watch<'a> {
+    pub fn new(task: &'a Task) -> Watch<'a> {
+        Watch {
+            task,
+            shortest: shortest(task),
+            dealt: [false; MAX_STATES],
+        }
+    }
+
+    /// Takes in a reply of Take or Bring; says what is wrong with it.
+    pub fn see(&mut self, reply: Reply) -> Result<(), String> {
+        match reply {
+            Reply::Took(state) => self.see_dealt(state as usize),
+            Reply::Found(cost) => self.see_found(u64::from(cost)),
+            Reply::NoPath => match self.shortest {
+                Some(cost) => Err(format!("NoPath, but a route costs {cost}")),
+                None => Ok(()),
+            },
+            Reply::Refused(12) => Err("refusal 12 on a machine reached by calls".into()),
+            _ => Ok(()),
+        }
+    }
+
+    fn see_dealt(&mut self, state: usize) -> Result<(), String> {
+        match self.dealt.get_mut(state) {
+            Some(dealt) if !*dealt => {
+                *dealt = true;
+                Ok(())
+            }
+            Some(_) => Err(format!("state {state} dealt twice")),
+            None => Err(format!("state {state} dealt, which is none")),
+        }
+    }
+
+    fn see_found(&self, cost: u64) -> Result<(), String> {
+        match self.shortest {
+            None => Err(format!("Found {cost}, but there is no route")),
+            Some(shortest) if cost < shortest => {
+                Err(format!("Found {cost}, but the shortest is {shortest}"))
+            }
+            Some(shortest) if 100 * cost > u64::from(self.task.head.excess) * shortest => {
+                Err(format!("Found {cost}, too far above {shortest}"))
+            }
+            Some(_) => Ok(()),
+        }
+    }
+
+    /// Checks a path read out of the machine in `row` after Found `cost`.
+    pub fn see_path(&self, row: &[u32], path: &[u16], cost: u32) -> Result<(), String> {
+        let head = &self.task.head;
+        let ends = (path.first(), path.last());
+        if ends != (Some(&(head.start as u16)), Some(&(head.goal as u16))) {
+            return Err(format!("path {path:?} has wrong ends"));
+        }
+        let mut sum = 0;
+        for pair in path.windows(2) {
+            sum += self.step_cost(row, pair[0], pair[1])?;
+        }
+        match sum == u64::from(cost) {
+            true => Ok(()),
+            false => Err(format!("path {path:?} costs {sum}, not {cost}")),
+        }
+    }
+
+    /// The cost of the passage that the machine came to `to` by.
+    fn step_cost(&self, row: &[u32], from: u16, to: u16) -> Result<u64, String> {
+        let number = row[VIAS + usize::from(to)] as usize;
+        match self.task.passages.chunks_exact(3).nth(number) {
+            Some(p) if p[0] == u32::from(from) && p[1] == u32::from(to) => Ok(u64::from(p[2])),
+            _ => Err(format!("passage {number} is none from {from} to {to}")),
+        }
+    }
+}
+
+/// The cost of a cheapest route, if there is a route (Dijkstra).
+pub fn shortest(task: &Task) -> Option<u64> {
+    let mut distance = vec![u64::MAX; task.head.n];
+    let mut done = vec![false; task.head.n];
+    distance[task.head.start] = 0;
+    loop {
+        let waiting = (0..task.head.n).filter(|&s| !done[s] && distance[s] != u64::MAX);
+        let nearest = waiting.min_by_key(|&s| distance[s])?;
+        if nearest == task.head.goal {
+            return Some(distance[nearest]);
+        }
+        done[nearest] = true;
+        for p in task.passages.chunks_exact(3).filter(|p| p[0] as usize == nearest) {
+            let far = &mut distance[p[1] as usize];
+            *far = (*far).min(distance_sum(p[2], nearest_distance(&done, nearest)));
+        }
+    }
+}

@@ -1,0 +1,37 @@
+//! An independent route desk, written from document 01 alone, and what compares
+//! the proved desk with it.
+//!
+//! - `desk`: the task, the machine, opening, Take, Bring and path reading.
+//! - `taskfile`: the task file's reader and the text `deskrun` prints.
+//! - `rows`: the interface by number rows that both desks are called through.
+//! - `library`: the proved desk behind that interface (the only unsafe code).
+//! - `maker`: random tasks, machines, calls, buffers and files, from a seed.
+//! - `demand`: what demand 3 asks of a run, checked with an own Dijkstra.
+//! - `compare`: one case of the comparison.
+//! - `runs`: the runs of document 01, for either desk.
+//!
+//! ```text
+//! cargo test --offline                            self-tests, without the library
+//! cargo run --release --offline --bin compare -- --self
+//! DESK_LIB_DIR=FOLDER cargo build --release --offline
+//! target/release/compare --cases 100000 --seed 1
+//! target/release/bench
+//! ```
+
+pub mod compare;
+pub mod demand;
+pub mod desk;
+#[cfg(desk_library)]
+pub mod library;
+pub mod maker;
+pub mod rows;
+pub mod runs;
+pub mod taskfile;
+
+/// The proved desk, if this was built with it.
+pub fn library() -> Option<&'static dyn rows::RowDesk> {
+    #[cfg(desk_library)]
+    return Some(&library::Library);
+    #[cfg(not(desk_library))]
+    None
+}

@@ -1,0 +1,134 @@
+//! The proved desk's C interface, behind `RowDesk`. The only unsafe code here:
+//! each function hands the library a pointer and the length of one slice.
+
+use crate::desk::{Graph, Task};
+use crate::rows::RowDesk;
+
+extern "C" {
+    fn desk_open(
+        n: usize,
+        k: usize,
+        start: usize,
+        goal: usize,
+        pull: u16,
+        excess: u16,
+        passages: *const u32,
+        passages_len: usize,
+        estimates: *const u32,
+        estimates_len: usize,
+        machine: *mut u32,
+        machine_len: usize,
+    ) -> u64;
+
+    fn desk_take(
+        machine: *mut u32,
+        machine_len: usize,
+        passages: *const u32,
+        passages_len: usize,
+        estimates: *const u32,
+        estimates_len: usize,
+        worker: usize,
+    ) -> u64;
+
+    fn desk_bring(
+        machine: *mut u32,
+        machine_len: usize,
+        passages: *const u32,
+        passages_len: usize,
+        estimates: *const u32,
+        estimates_len: usize,
+        worker: usize,
+    ) -> u64;
+
+    fn desk_path(
+        machine: *const u32,
+        machine_len: usize,
+        passages: *const u32,
+        passages_len: usize,
+        estimates: *const u32,
+        estimates_len: usize,
+        buffer: *mut u16,
+        buffer_len: usize,
+        at: usize,
+    ) -> u64;
+
+    fn desk_print(file: *const u8, file_len: usize, out: *mut u8, out_len: usize) -> usize;
+}
+
+/// The linked library.
+pub struct Library;
+
+impl RowDesk for Library {
+    fn open(&self, task: &Task, row: &mut [u32]) -> u64 {
+        let (head, graph) = (&task.head, task.graph());
+        // SAFETY: each pointer goes with the length of the slice it comes from.
+        unsafe {
+            desk_open(
+                head.n,
+                head.k,
+                head.start,
+                head.goal,
+                head.pull,
+                head.excess,
+                graph.passages.as_ptr(),
+                graph.passages.len(),
+                graph.estimates.as_ptr(),
+                graph.estimates.len(),
+                row.as_mut_ptr(),
+                row.len(),
+            )
+        }
+    }
+
+    fn take(&self, row: &mut [u32], graph: Graph, worker: usize) -> u64 {
+        // SAFETY: each pointer goes with the length of the slice it comes from.
+        unsafe {
+            desk_take(
+                row.as_mut_ptr(),
+                row.len(),
+                graph.passages.as_ptr(),
+                graph.passages.len(),
+                graph.estimates.as_ptr(),
+                graph.estimates.len(),
+                worker,
+            )
+        }
+    }
+
+    fn bring(&self, row: &mut [u32], graph: Graph, worker: usize) -> u64 {
+        // SAFETY: each pointer goes with the length of the slice it comes from.
+        unsafe {
+            desk_bring(
+                row.as_mut_ptr(),
+                row.len(),
+                graph.passages.as_ptr(),
+                graph.passages.len(),
+                graph.estimates.as_ptr(),
+                graph.estimates.len(),
+                worker,
+            )
+        }
+    }
+
+    fn path(&self, row: &[u32], graph: Graph, buffer: &mut [u16], at: usize) -> u64 {
+        // SAFETY: each pointer goes with the length of the slice it comes from.
+        unsafe {
+            desk_path(
+                row.as_ptr(),
+                row.len(),
+                graph.passages.as_ptr(),
+                graph.passages.len(),
+                graph.estimates.as_ptr(),
+                graph.estimates.len(),
+                buffer.as_mut_ptr(),
+                buffer.len(),
+                at,
+            )
+        }
+    }
+
+    fn print(&self, file: &[u8], out: &mut [u8]) -> usize {
+        // SAFETY: each pointer goes with the length of the slice it comes from.
+        unsafe { desk_print(file.as_ptr(), file.len(), out.as_mut_ptr(), out.len()) }
+    }
+}

@@ -1,0 +1,178 @@
+//! The interface that both desks are called through: a machine as a row of 807
+//! numbers, a reply as one number. `Independent` puts the independent desk
+//! behind it, so that comparison and bench treat both desks alike.
+
+use crate::desk::{Graph, Head, Machine, Reply, Task, MAX_STATES, MAX_WORKERS};
+use crate::taskfile;
+use std::fmt;
+
+/// Length of a machine row, and where its parts begin.
+pub const ROW: usize = HELD + MAX_WORKERS;
+pub const PHASE: usize = 6;
+pub const MARKS: usize = 7;
+pub const LABELS: usize = MARKS + MAX_STATES;
+pub const VIAS: usize = LABELS + MAX_STATES;
+pub const HELD: usize = VIAS + MAX_STATES;
+
+/// The room that `print` asks for.
+pub const PRINT_ROOM: usize = 262_144;
+
+/// A desk by number rows.
+pub trait RowDesk {
+    fn open(&self, task: &Task, row: &mut [u32]) -> u64;
+    fn take(&self, row: &mut [u32], graph: Graph, worker: usize) -> u64;
+    fn bring(&self, row: &mut [u32], graph: Graph, worker: usize) -> u64;
+    fn path(&self, row: &[u32], graph: Graph, buffer: &mut [u16], at: usize) -> u64;
+    fn print(&self, file: &[u8], out: &mut [u8]) -> usize;
+}
+
+/// The code of a reply: case * 2^32 + value.
+pub fn code(reply: Reply) -> u64 {
+    let (case, value) = match reply {
+        Reply::Opened => (0, 0),
+        Reply::Took(state) => (1, state),
+        Reply::Brought(count) => (2, count),
+        Reply::Found(cost) => (3, cost),
+        Reply::NoPath => (4, 0),
+        Reply::Wait => (5, 0),
+        Reply::Read(count) => (6, count),
+        Reply::Refused(number) => (7, number),
+    };
+    case << 32 | u64::from(value)
+}
+
+/// The reply of a code, if it is one.
+pub fn reply(code: u64) -> Option<Reply> {
+    let value = code as u32;
+    match (code >> 32, value) {
+        (0, 0) => Some(Reply::Opened),
+        (1, _) => Some(Reply::Took(value)),
+        (2, _) => Some(Reply::Brought(value)),
+        (3, _) => Some(Reply::Found(value)),
+        (4, 0) => Some(Reply::NoPath),
+        (5, 0) => Some(Reply::Wait),
+        (6, _) => Some(Reply::Read(value)),
+        (7, _) => Some(Reply::Refused(value)),
+        _ => None,
+    }
+}
+
+/// A code as it is shown in reports.
+pub struct Shown(pub u64);
+
+impl fmt::Display for Shown {
+    fn fmt(&self, f: &mut fmt::Formatter) -> fmt::Result {
+        match reply(self.0) {
+            Some(reply) => write!(f, "{reply:?}"),
+            None => write!(f, "code {:#x}", self.0),
+        }
+    }
+}
+
+/// The machine of a row, unless a number is too large for its field.
+pub fn decode(row: &[u32]) -> Option<Machine> {
+    let row: &[u32; ROW] = row.try_into().ok()?;
+    let bytes = all_below_power(&row[PHASE..LABELS], 8);
+    let pairs = all_below_power(&row[4..6], 16) && all_below_power(&row[VIAS..], 16);
+    if !(bytes && pairs) {
+        return None;
+    }
+    let head = Head {
+        n: row[0] as usize,
+        k: row[1] as usize,
+        start: row[2] as usize,
+        goal: row[3] as usize,
+        pull: row[4] as u16,
+        excess: row[5] as u16,
+    };
+    Some(Machine {
+        head,
+        phase: row[PHASE] as u8,
+        marks: std::array::from_fn(|i| row[MARKS + i] as u8),
+        labels: std::array::from_fn(|i| row[LABELS + i]),
+        vias: std::array::from_fn(|i| row[VIAS + i] as u16),
+        held: std::array::from_fn(|i| row[HELD + i] as u16),
+    })
+}
+
+/// Whether each number is below 2^bits: so is then all of them or-ed together.
+fn all_below_power(numbers: &[u32], bits: u32) -> bool {
+    numbers.iter().fold(0, |all, &number| all | number) >> bits == 0
+}
+
+/// Writes a machine into a row of the right length.
+pub fn encode(machine: &Machine, row: &mut [u32]) {
+    let head = &machine.head;
+    let sizes = [head.n, head.k, head.start, head.goal];
+    fill(&mut row[..4], sizes.iter().map(|&size| size as u32));
+    row[4] = u32::from(head.pull);
+    row[5] = u32::from(head.excess);
+    row[PHASE] = u32::from(machine.phase);
+    fill(&mut row[MARKS..LABELS], machine.marks.iter().map(|&m| u32::from(m)));
+    row[LABELS..VIAS].copy_from_slice(&machine.labels);
+    fill(&mut row[VIAS..HELD], machine.vias.iter().map(|&v| u32::from(v)));
+    fill(&mut row[HELD..], machine.held.iter().map(|&h| u32::from(h)));
+}
+
+fn fill(places: &mut [u32], numbers: impl Iterator<Item = u32>) {
+    for (place, number) in places.iter_mut().zip(numbers) {
+        *place = number;
+    }
+}
+
+/// The independent desk by number rows.
+pub struct Independent;
+
+impl Independent {
+    /// Runs a call on the machine of a row and writes the machine back.
+    fn on_row(row: &mut [u32], call: impl FnOnce(&mut Machine) -> Reply) -> u64 {
+        let Some(mut machine) = decode(row) else {
+            return code(Reply::Refused(8));
+        };
+        let reply = call(&mut machine);
+        encode(&machine, row);
+        code(reply)
+    }
+}
+
+impl RowDesk for Independent {
+    fn open(&self, task: &Task, row: &mut [u32]) -> u64 {
+        if row.len() != ROW {
+            return code(Reply::Refused(8));
+        }
+        match Machine::open(task.head, task.graph()) {
+            Ok(machine) => {
+                encode(&machine, row);
+                code(Reply::Opened)
+            }
+            Err(number) => {
+                row.fill(0);
+                code(Reply::Refused(number))
+            }
+        }
+    }
+
+    fn take(&self, row: &mut [u32], graph: Graph, worker: usize) -> u64 {
+        Independent::on_row(row, |machine| machine.take(graph, worker))
+    }
+
+    fn bring(&self, row: &mut [u32], graph: Graph, worker: usize) -> u64 {
+        Independent::on_row(row, |machine| machine.bring(graph, worker))
+    }
+
+    fn path(&self, row: &[u32], graph: Graph, buffer: &mut [u16], at: usize) -> u64 {
+        code(match decode(row) {
+            Some(machine) => machine.path(graph, buffer, at),
+            None => Reply::Refused(8),
+        })
+    }
+
+    fn print(&self, file: &[u8], out: &mut [u8]) -> usize {
+        if out.len() < PRINT_ROOM {
+            return 0;
+        }
+        let text = taskfile::deskrun(file);
+        out[..text.len()].copy_from_slice(text.as_bytes());
+        text.len()
+    }
+}

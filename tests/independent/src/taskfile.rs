@@ -1,0 +1,213 @@
+//! The task file: its reader, with the faults 21 to 23, and the text that
+//! `deskrun` prints for a file.
+
+use crate::desk::{Graph, Head, Machine, Reply, Task};
+use std::fmt::Write;
+
+pub const MAX_FILE: usize = 65_536;
+const MAX_FILE_STATES: usize = 64;
+const MAX_FILE_PASSAGES: usize = 512;
+
+/// A file fault: its number and the offset it is found at.
+#[derive(Clone, Copy, Debug, PartialEq, Eq)]
+pub struct Fault {
+    pub number: u32,
+    pub offset: usize,
+}
+
+#[derive(Clone, Copy, Debug, PartialEq, Eq)]
+pub enum Action {
+    Take,
+    Bring,
+}
+
+#[derive(Clone, Copy, Debug, PartialEq, Eq)]
+pub struct Call {
+    pub action: Action,
+    pub worker: u8,
+}
+
+struct Record<'a> {
+    kind: u16,
+    payload: &'a [u8],
+}
+
+/// What the records so far have given.
+#[derive(Default)]
+struct Reader {
+    head: Option<Head>,
+    passages: Vec<u32>,
+    estimates: Vec<u32>,
+    rows: usize,
+    calls: Vec<Call>,
+}
+
+/// Reads a whole file: the task and the calls.
+pub fn read(file: &[u8]) -> Result<(Task, Vec<Call>), Fault> {
+    if file.len() > MAX_FILE {
+        return Err(Fault {
+            number: 23,
+            offset: MAX_FILE,
+        });
+    }
+    let mut reader = Reader::default();
+    let mut offset = 0;
+    while offset < file.len() {
+        let fault = |number| Fault { number, offset };
+        let record = next_record(&file[offset..]).ok_or(fault(21))?;
+        reader.accept(&record).map_err(fault)?;
+        offset += 4 + record.payload.len();
+    }
+    reader.finish().ok_or(Fault { number: 21, offset })
+}
+
+/// The record at the front of `bytes`, if all of it is there.
+fn next_record(bytes: &[u8]) -> Option<Record<'_>> {
+    let (front, rest) = bytes.split_at_checked(4)?;
+    Some(Record {
+        kind: two_bytes(&front[2..]),
+        payload: rest.get(..usize::from(two_bytes(front)))?,
+    })
+}
+
+fn two_bytes(bytes: &[u8]) -> u16 {
+    u16::from_le_bytes([bytes[0], bytes[1]])
+}
+
+fn four_bytes(bytes: &[u8]) -> u32 {
+    u32::from_le_bytes([bytes[0], bytes[1], bytes[2], bytes[3]])
+}
+
+impl Reader {
+    /// Takes in one record, or gives the fault's number.
+    fn accept(&mut self, record: &Record) -> Result<(), u32> {
+        match (record.kind, self.head) {
+            (1, None) => self.accept_head(record.payload),
+            (2, Some(_)) if self.rows == 0 => self.accept_passage(record.payload),
+            (3, Some(head)) if self.rows < head.n => self.accept_row(head.n, record.payload),
+            (4, Some(head)) if self.rows == head.n => self.accept_call(record.payload),
+            _ => Err(22),
+        }
+    }
+
+    fn accept_head(&mut self, payload: &[u8]) -> Result<(), u32> {
+        if payload.len() != 12 {
+            return Err(22);
+        }
+        let number = |place: usize| two_bytes(&payload[2 * place..]);
+        let n = usize::from(number(0));
+        if !(1..=MAX_FILE_STATES).contains(&n) {
+            return Err(23);
+        }
+        self.head = Some(Head {
+            n,
+            k: usize::from(number(1)),
+            start: usize::from(number(2)),
+            goal: usize::from(number(3)),
+            pull: number(4),
+            excess: number(5),
+        });
+        self.estimates.reserve_exact(n * n);
+        Ok(())
+    }
+
+    fn accept_passage(&mut self, payload: &[u8]) -> Result<(), u32> {
+        if payload.len() != 8 {
+            return Err(22);
+        }
+        if self.passages.len() == 3 * MAX_FILE_PASSAGES {
+            return Err(23);
+        }
+        self.passages.extend([
+            u32::from(two_bytes(payload)),
+            u32::from(two_bytes(&payload[2..])),
+            four_bytes(&payload[4..]),
+        ]);
+        Ok(())
+    }
+
+    fn accept_row(&mut self, n: usize, payload: &[u8]) -> Result<(), u32> {
+        if payload.len() != 2 + 4 * n || usize::from(two_bytes(payload)) != self.rows {
+            return Err(22);
+        }
+        self.estimates.extend(payload[2..].chunks_exact(4).map(four_bytes));
+        self.rows += 1;
+        Ok(())
+    }
+
+    fn accept_call(&mut self, payload: &[u8]) -> Result<(), u32> {
+        let action = match payload {
+            [0, _] => Action::Take,
+            [1, _] => Action::Bring,
+            _ => return Err(22),
+        };
+        self.calls.push(Call {
+            action,
+            worker: payload[1],
+        });
+        Ok(())
+    }
+
+    /// The task and calls, if the head and all rows are there.
+    fn finish(self) -> Option<(Task, Vec<Call>)> {
+        let head = self.head.filter(|head| self.rows == head.n)?;
+        let task = Task {
+            head,
+            passages: self.passages,
+            estimates: self.estimates,
+        };
+        Some((task, self.calls))
+    }
+}
+
+/// What `deskrun` prints for a file.
+pub fn deskrun(file: &[u8]) -> String {
+    match read(file) {
+        Err(fault) => format!("file {} {}\n", fault.number, fault.offset),
+        Ok((task, calls)) => match Machine::open(task.head, task.graph()) {
+            Err(number) => format!("opening {number}\n"),
+            Ok(machine) => run_calls(machine, task.graph(), &calls),
+        },
+    }
+}
+
+fn run_calls(mut machine: Machine, graph: Graph, calls: &[Call]) -> String {
+    let mut text = String::with_capacity(16 * calls.len());
+    for call in calls {
+        let worker = usize::from(call.worker);
+        let reply = match call.action {
+            Action::Take => machine.take(graph, worker),
+            Action::Bring => machine.bring(graph, worker),
+        };
+        print_reply(&mut text, worker, reply);
+        if matches!(reply, Reply::Found(_)) {
+            print_path(&mut text, &machine, graph);
+        }
+    }
+    text
+}
+
+fn print_reply(text: &mut String, worker: usize, reply: Reply) {
+    match reply {
+        Reply::Took(state) => writeln!(text, "took {worker} {state}"),
+        Reply::Brought(count) => writeln!(text, "brought {worker} {count}"),
+        Reply::Found(cost) => writeln!(text, "found {worker} {cost}"),
+        Reply::NoPath => writeln!(text, "nopath {worker}"),
+        Reply::Wait => writeln!(text, "wait {worker}"),
+        Reply::Refused(number) => writeln!(text, "refused {worker} {number}"),
+        Reply::Opened | Reply::Read(_) => unreachable!("no answer to Take or Bring"),
+    }
+    .expect("writing to a String does not fail");
+}
+
+fn print_path(text: &mut String, machine: &Machine, graph: Graph) {
+    let mut buffer = [0; MAX_FILE_STATES];
+    let Reply::Read(count) = machine.path(graph, &mut buffer, 0) else {
+        unreachable!("a found path can be read");
+    };
+    text.push_str("path");
+    for state in &buffer[..count as usize] {
+        write!(text, " {state}").expect("writing to a String does not fail");
+    }
+    text.push('\n');
+}
