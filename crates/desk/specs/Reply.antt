@@ -1,5 +1,5 @@
 -- Replies: a machine handed back with a reply beside it, and the document's number and value for each case.
-use Prim.Native.Nat.{ℕ}
+use Prim.Native.Nat.{ℕ, _+_, _*_}
 use Rattle.desk.specs.declared.Machine.{Machine}
 use Rattle.desk.specs.declared.Reply.{Reply}
 use Rattle.desk.specs.declared.Reply.the-variants.{Opened, Took, Brought, Found, NoPath, Wait, Read, Refused}
@@ -34,3 +34,17 @@ valueOf NoPath = 0
 valueOf Wait = 0
 valueOf (Read many) = many
 valueOf (Refused number) = number
+
+-- a reply as one number: its case times 2^32, plus its value
+abbrev pub caseOf : Reply → ℕ
+caseOf Opened = 0
+caseOf (Took s) = 1
+caseOf (Brought many) = 2
+caseOf (Found cost) = 3
+caseOf NoPath = 4
+caseOf Wait = 5
+caseOf (Read many) = 6
+caseOf (Refused number) = 7
+
+unfoldable pub codeOf : Reply → ℕ
+codeOf r = caseOf r * 4294967296 + valueOf r

@@ -1,10 +1,13 @@
 // The route desk: a machine that deals junction states out to workers and takes them back, one call at a time.
 // The calls are Machine::opening, take, bring and path. Each is defined for every input.
 mod bring;
+mod coding;
 mod fits;
 mod opening;
 mod path;
 mod take;
+
+pub use coding::code;
 
 // n, k, start, goal, W and E of the task; the phase, 0 searching, 1 found, 2 no path; for each state a mark, a label
 // and the number of the passage that the label came by; for each worker the state that it holds.
@@ -24,12 +27,12 @@ pub struct Machine {
 
 pub enum Reply {
     Opened,
-    Took(usize),
+    Took(u16),
     Brought(u32),
     Found(u32),
     NoPath,
     Wait,
-    Read(usize),
+    Read(u16),
     Refused(u8),
 }
 

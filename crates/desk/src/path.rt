@@ -28,9 +28,10 @@ impl Machine {
             return fits::refused(self, 15);
         }
         trail::write_back(&mut buffer[at..], &self.via, passages, goal, count);
+        let states = count as u16;
         Answer {
             machine: self,
-            reply: Reply::Read(count),
+            reply: Reply::Read(states),
         }
     }
 }

@@ -32,11 +32,12 @@ pub fn act(m: Machine, worker: usize, decision: Decision) -> Answer
             }
         }
         Decision::Deal(s) => {
+            let number = s as u16;
             next.mark[s] = rule::OUT;
-            next.held[worker] = s as u16;
+            next.held[worker] = number;
             Answer {
                 machine: next,
-                reply: Reply::Took(s),
+                reply: Reply::Took(number),
             }
         }
         Decision::Stuck => fits::refused(m, 12),

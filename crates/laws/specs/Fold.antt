@@ -1,8 +1,11 @@
 -- A loop that changes a state, going over the numbers below n from 0 upwards.
 -- Assumes nothing.
-use mathlib.Core.Path.{_≡_, refl}
-use Prim.Native.Nat.{ℕ, zero, suc, _+_}
+use mathlib.Core.Path.{_≡_, refl, ap, _∙_}
+use mathlib.Core.Logic.{⊎-elim}
+use Prim.Native.Nat.{ℕ, zero, suc, _+_, _≤_}
+use native.Mathlib.Nat.{le-of-suc-le-suc, eq-or-lt-of-le}
 use native.Mathlib.Numerals.{add-one}
+use native.Mathlib.Omega.{arith}
 
 -- a, then f 0 of it, then f 1 of that, and so on to f (n - 1)
 unfoldable pub fold : {S : Type 0} → (ℕ → S → S) → S → ℕ → S
@@ -16,3 +19,10 @@ fold-zero f a = refl
 pub fold-more : {S : Type 0} (f : ℕ → S → S) (a : S) (i : ℕ) → fold f a (i + 1) ≡ f i (fold f a i)
 unfolding fold
 fold-more f a i = rw add-one
+
+-- a state that no turn changes any more is the last one
+pub fold-still : {S : Type 0} (f : ℕ → S → S) (a : S) (i n : ℕ) → i ≤ n → ((j : ℕ) → f j (fold f a i) ≡ fold f a i) → fold f a n ≡ fold f a i
+unfolding fold
+fold-still f a i zero l h = let q : i ≡ 0 = omega arith in rw q
+fold-still f a i (suc n) l h =
+    ⊎-elim (λ q. rw q) (λ k. ap (f n) (fold-still f a i n (le-of-suc-le-suc k) h) ∙ h n) (eq-or-lt-of-le l)

@@ -9,3 +9,4 @@ pub mod All
 pub mod Table
 pub mod Difference
 pub mod Part
+pub mod Fill

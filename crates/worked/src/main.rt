@@ -79,9 +79,7 @@ fn show(states: &[u16; 5]) {
 
 // Task A, with sizes, a goal and a cost for the last passage of its own: opened.
 fn opened(n: usize, k: usize, goal: usize, cost: u32) -> Answer {
-    let passages = [
-        0u32, 1, 2, 0, 2, 5, 1, 2, 1, 2, 3, 2, 1, 4, 9, 3, 4, cost,
-    ];
+    let passages = [0u32, 1, 2, 0, 2, 5, 1, 2, 1, 2, 3, 2, 1, 4, 9, 3, 4, cost];
     let estimates = [0u32; 25];
     Machine::opening(n, k, 0, goal, 100, 100, &passages, &estimates)
 }
@@ -96,18 +94,14 @@ fn dealt() -> Machine {
 
 // Take of a worker, on task A.
 fn taken(m: Machine, worker: usize) -> Answer {
-    let passages = [
-        0u32, 1, 2, 0, 2, 5, 1, 2, 1, 2, 3, 2, 1, 4, 9, 3, 4, 1,
-    ];
+    let passages = [0u32, 1, 2, 0, 2, 5, 1, 2, 1, 2, 3, 2, 1, 4, 9, 3, 4, 1];
     let estimates = [0u32; 25];
     m.take(&passages, &estimates, worker)
 }
 
 // The calls of A1 on task A.
 fn played() -> Machine {
-    let passages = [
-        0u32, 1, 2, 0, 2, 5, 1, 2, 1, 2, 3, 2, 1, 4, 9, 3, 4, 1,
-    ];
+    let passages = [0u32, 1, 2, 0, 2, 5, 1, 2, 1, 2, 3, 2, 1, 4, 9, 3, 4, 1];
     let estimates = [0u32; 25];
     let calls = [0u8, 1, 16, 0, 1, 16, 1, 0, 17, 0, 1, 16, 1];
     let answer = opened(5, 2, 4, 1);
@@ -116,9 +110,7 @@ fn played() -> Machine {
 
 // Path reading on task A, into a buffer of five places from `at` on: the reply, and the buffer.
 fn read(m: Machine, at: usize) {
-    let passages = [
-        0u32, 1, 2, 0, 2, 5, 1, 2, 1, 2, 3, 2, 1, 4, 9, 3, 4, 1,
-    ];
+    let passages = [0u32, 1, 2, 0, 2, 5, 1, 2, 1, 2, 3, 2, 1, 4, 9, 3, 4, 1];
     let estimates = [0u32; 25];
     let mut states = [9u16; 5];
     said(0, m.path(&passages, &estimates, &mut states, at));
@@ -127,9 +119,7 @@ fn read(m: Machine, at: usize) {
 
 // Path reading on task A, into no place at all.
 fn read_nowhere(m: Machine) {
-    let passages = [
-        0u32, 1, 2, 0, 2, 5, 1, 2, 1, 2, 3, 2, 1, 4, 9, 3, 4, 1,
-    ];
+    let passages = [0u32, 1, 2, 0, 2, 5, 1, 2, 1, 2, 3, 2, 1, 4, 9, 3, 4, 1];
     let estimates = [0u32; 25];
     let mut none = [0u16; 0];
     said(0, m.path(&passages, &estimates, &mut none, 0));

@@ -99,9 +99,14 @@ pub fn shortest(task: &Task) -> Option<u64> {
             return Some(distance[nearest]);
         }
         done[nearest] = true;
-        for p in task.passages.chunks_exact(3).filter(|p| p[0] as usize == nearest) {
+        let base = distance[nearest];
+        for p in task
+            .passages
+            .chunks_exact(3)
+            .filter(|p| p[0] as usize == nearest)
+        {
             let far = &mut distance[p[1] as usize];
-            *far = (*far).min(distance_sum(p[2], nearest_distance(&done, nearest)));
+            *far = (*far).min(base + u64::from(p[2]));
         }
     }
 }

@@ -367,9 +367,12 @@ fn estimates_below_costs(n: usize, graph: Graph) -> bool {
 /// be made into vector instructions.
 fn triangles_hold(n: usize, estimates: &[u32]) -> bool {
     estimates.chunks_exact(n).all(|from_a| {
-        from_a.iter().zip(estimates.chunks_exact(n)).all(|(&ab, from_b)| {
-            let pairs = from_a.iter().zip(from_b);
-            !pairs.fold(false, |broken, (&ac, &bc)| broken | (ac > ab + bc))
-        })
+        from_a
+            .iter()
+            .zip(estimates.chunks_exact(n))
+            .all(|(&ab, from_b)| {
+                let pairs = from_a.iter().zip(from_b);
+                !pairs.fold(false, |broken, (&ac, &bc)| broken | (ac > ab + bc))
+            })
     })
 }

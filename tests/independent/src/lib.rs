@@ -8,6 +8,7 @@
 //! - `maker`: random tasks, machines, calls, buffers and files, from a seed.
 //! - `demand`: what demand 3 asks of a run, checked with an own Dijkstra.
 //! - `compare`: one case of the comparison.
+//! - `tally`: counts of what the cases met.
 //! - `runs`: the runs of document 01, for either desk.
 //!
 //! ```text
@@ -18,15 +19,21 @@
 //! target/release/bench
 //! ```
 
+#![deny(unsafe_code)]
+
 pub mod compare;
 pub mod demand;
 pub mod desk;
 #[cfg(desk_library)]
+#[allow(unsafe_code)]
 pub mod library;
 pub mod maker;
 pub mod rows;
 pub mod runs;
+pub mod tally;
 pub mod taskfile;
+#[cfg(test)]
+mod tests;
 
 /// The proved desk, if this was built with it.
 pub fn library() -> Option<&'static dyn rows::RowDesk> {

@@ -1,12 +1,11 @@
 //! The random maker: tasks, made-up machines, calls, buffers and task files,
 //! good and damaged, all drawn from a seed and a case number.
 
-use crate::desk::{Head, Machine, Task, MAX_COST, MAX_LABEL, MAX_PASSAGES, NONE, OPEN, OUT};
+use crate::desk::{Head, Machine, Task, MAX_COST, MAX_LABEL, MAX_PASSAGES, NONE, OUT};
 use crate::rows::{self, HELD, LABELS, MARKS, PHASE, ROW, VIAS};
 use crate::taskfile::{Action, MAX_FILE};
 
 /// A small generator of random numbers (splitmix64).
-#[derive(Clone)]
 pub struct Rng(u64);
 
 impl Rng {
@@ -51,10 +50,10 @@ impl Rng {
 /// A task that opening accepts, mostly small.
 pub fn task(rng: &mut Rng) -> Task {
     let n = match rng.below(1000) {
-        0..=779 => rng.between(1, 8),
-        780..=959 => rng.between(9, 24),
-        960..=995 => rng.between(25, 64),
-        996..=998 => rng.between(65, 256),
+        0..=599 => rng.between(1, 8),
+        600..=899 => rng.between(9, 24),
+        900..=984 => rng.between(25, 64),
+        985..=997 => rng.between(65, 256),
         _ => rng.pick(&[255, 256]),
     };
     task_of(rng, n)
@@ -77,21 +76,24 @@ fn head(rng: &mut Rng, n: usize) -> Head {
     let excess = rng.pick(&[100, 100, 101, 150, 200, 300, 299, 1000, 10_000, any_excess]);
     let any_pull = rng.between(0, usize::from(excess)) as u16;
     let widest = rng.pick(&[1, 2, 3, 4, 8, 32]);
+    let start = rng.below(n);
+    let other = (start + rng.below(n.max(2) - 1) + 1) % n;
     Head {
         n,
         k: rng.between(1, widest),
-        start: rng.below(n),
-        goal: rng.below(n),
+        start,
+        goal: if rng.percent(5) { start } else { other },
         pull: rng.pick(&[0, 100, excess, any_pull]),
         excess,
     }
 }
 
 fn passages(rng: &mut Rng, n: usize) -> Vec<u32> {
-    let most = rng.pick(&[1, 2, 3, 4, 8]) * n;
+    let most = rng.pick(&[2, 3, 4, 8]) * n;
     let count = match rng.below(300) {
         0 => MAX_PASSAGES,
-        _ => rng.between(0, most),
+        1..=60 => rng.between(0, n),
+        _ => rng.between(n, most),
     };
     let costs = rng.pick(&[0, 1, 2, 3, 20, 20, 1000, MAX_COST]);
     let mut passages = Vec::with_capacity(3 * count);
@@ -139,7 +141,13 @@ fn lowered_distances(rng: &mut Rng, n: usize, passages: &[u32]) -> Vec<u32> {
             true => passage[2],
             false => rng.up_to(passage[2]),
         };
-        lower(&mut table, n, passage[0] as usize, passage[1] as usize, cost);
+        lower(
+            &mut table,
+            n,
+            passage[0] as usize,
+            passage[1] as usize,
+            cost,
+        );
     }
     for _ in 0..rng.pick(&[0, 0, 1, n]) {
         let (a, b, cost) = (rng.below(n), rng.below(n), rng.up_to(highest));
@@ -193,7 +201,9 @@ fn break_sizes(rng: &mut Rng, task: &mut Task) {
         1 => task.head.k = rng.pick(&[0, 33, 256, huge]),
         2 => task.passages.push(0),
         3 => drop(task.passages.pop()),
-        4 => task.passages.resize(3 * MAX_PASSAGES + rng.pick(&[1, 3]), 0),
+        4 => task
+            .passages
+            .resize(3 * MAX_PASSAGES + rng.pick(&[1, 3]), 0),
         5 => task.estimates.push(0),
         6 => drop(task.estimates.pop()),
         _ => task.head.n = rng.between(1, 256),
@@ -339,7 +349,9 @@ fn made_up_task(rng: &mut Rng) -> Task {
     let mut task = task_of(rng, n);
     let highest = rng.pick(&[0, 3, 50, 1000, MAX_LABEL, u32::MAX]);
     if rng.percent(60) {
-        task.estimates.iter_mut().for_each(|h| *h = rng.up_to(highest));
+        task.estimates
+            .iter_mut()
+            .for_each(|h| *h = rng.up_to(highest));
     }
     task
 }
@@ -356,10 +368,17 @@ fn made_up_row(rng: &mut Rng, task: &Task) -> Vec<u32> {
     row[PHASE] = rng.pick(&[0, 0, 0, 0, 1, 1, 1, 2]);
     row[HELD..][..head.k].fill(u32::from(NONE));
     let marks = rng.pick(&[[0, 1, 1, 3], [0, 0, 1, 3], [1, 1, 1, 1], [0, 0, 3, 3]]);
-    let highest = rng.pick(&[0, 0, 3, 20, 1000, MAX_LABEL]);
+    let (lowest, spread) = rng.pick(&[
+        (0, 0),
+        (0, 3),
+        (0, 20),
+        (0, 1000),
+        (0, MAX_LABEL),
+        (MAX_LABEL - 3, 3),
+    ]);
     for state in 0..head.n {
         row[MARKS + state] = rng.pick(&marks);
-        row[LABELS + state] = rng.up_to(highest);
+        row[LABELS + state] = lowest + rng.up_to(spread);
     }
     deal_out(rng, &mut row, head);
     link_back(rng, &mut row, task);
@@ -427,7 +446,7 @@ fn damage_row(rng: &mut Rng, row: &mut Vec<u32>) {
         0 => row[0] = rng.pick(&[0, 257, n as u32 + 1, u32::MAX]),
         1 => row[1] = rng.pick(&[0, 33, 32, u32::MAX]),
         2 => row[2 + rng.below(2)] = rng.pick(&[n as u32, 255, 65_535, u32::MAX]),
-        3 => row[4] = rng.pick(&[row[5] + 1, 10_000, 65_535, 65_536]),
+        3 => row[4] = rng.pick(&[row[5].saturating_add(1), 10_000, 65_535, 65_536]),
         4 => row[5] = rng.pick(&[0, 99, 100, 10_000, 10_001, 65_535, 65_536, u32::MAX]),
         5 => row[PHASE] = rng.pick(&[1, 2, 3, 255, 256, u32::MAX]),
         6 => row[MARKS + state] = rng.up_to(3),
@@ -436,17 +455,25 @@ fn damage_row(rng: &mut Rng, row: &mut Vec<u32>) {
         9 => row[VIAS + state] = rng.pick(&[65_534, 65_535, 65_536, 4096, u32::MAX]),
         10 => row[HELD + worker] = state as u32,
         11 => row[HELD + worker] = rng.pick(&[n as u32, 256, 65_534, 65_535, 65_536]),
-        12 => row[HELD + worker] = row[HELD + rng.below(k)],
+        12 => row[HELD + worker] = some_held(row, k),
         13 => row[HELD + rng.below(32)] = rng.pick(&[state as u32, 65_535, 65_536]),
         14 => row[MARKS + rng.below(256)] = rng.pick(&[1, 255, 256]),
         _ => row.resize(rng.pick(&[0, 1, 256, 806, 808, 1614]), 0),
     }
 }
 
+/// A state that a worker below k holds, if one does.
+fn some_held(row: &[u32], k: usize) -> u32 {
+    let held = row[HELD..][..k].iter().copied();
+    held.min().unwrap_or(u32::from(NONE))
+}
+
 fn damage_slices(rng: &mut Rng, task: &mut Task) {
     match rng.below(3) {
         0 => break_passage(rng, task),
-        1 => task.passages.resize(rng.pick(&[0, 1, 3 * MAX_PASSAGES + 3]), 0),
+        1 => task
+            .passages
+            .resize(rng.pick(&[0, 1, 3 * MAX_PASSAGES + 3]), 0),
         _ => task.estimates.resize(rng.pick(&[0, 1, 4, 65_536]), 0),
     }
 }
@@ -509,7 +536,11 @@ pub fn file(rng: &mut Rng) -> Vec<u8> {
 /// The file of a task and calls.
 pub fn file_of(task: &Task, calls: &[(Action, u8)]) -> Vec<u8> {
     let mut records = task_records(task);
-    records.extend(calls.iter().map(|&(action, worker)| Record::call(action, worker)));
+    records.extend(
+        calls
+            .iter()
+            .map(|&(action, worker)| Record::call(action, worker)),
+    );
     bytes_of(&records)
 }
 
@@ -545,7 +576,9 @@ fn task_records(task: &Task) -> Vec<Record> {
     let numbers = sizes.into_iter().chain([head.pull, head.excess]);
     let mut records = vec![Record::new(1, numbers.flat_map(u16::to_le_bytes).collect())];
     for p in task.passages.chunks_exact(3) {
-        let ends = [p[0] as u16, p[1] as u16].into_iter().flat_map(u16::to_le_bytes);
+        let ends = [p[0] as u16, p[1] as u16]
+            .into_iter()
+            .flat_map(u16::to_le_bytes);
         records.push(Record::new(2, ends.chain(p[2].to_le_bytes()).collect()));
     }
     for (number, row) in task.estimates.chunks_exact(head.n).enumerate() {
@@ -628,16 +661,21 @@ fn shorten(record: &mut Record) {
     }
 }
 
-/// Sets the n of a head.
+/// Sets the n of a head, which may also become too long.
 fn set_states(rng: &mut Rng, head: &mut Record) {
     let n = rng.pick(&[0, 1, 2, 64, 65, 256, 65_535_u16]);
     if let Some(places) = head.payload.get_mut(..2) {
         places.copy_from_slice(&n.to_le_bytes());
     }
+    if rng.percent(20) {
+        lengthen(rng, head);
+    }
 }
 
 fn damage_call(rng: &mut Rng, records: &mut [Record]) {
-    let calls: Vec<_> = (0..records.len()).filter(|&i| records[i].kind == 4).collect();
+    let calls: Vec<_> = (0..records.len())
+        .filter(|&i| records[i].kind == 4)
+        .collect();
     if !calls.is_empty() {
         let record = &mut records[rng.pick(&calls)];
         if let Some(place) = record.payload.first_mut() {
@@ -646,17 +684,25 @@ fn damage_call(rng: &mut Rng, records: &mut [Record]) {
     }
 }
 
-/// Adds passages of a good length, up to about the number that is allowed.
+/// Adds passages, up to about the number that is allowed; the last may be one
+/// of a wrong length.
 fn add_passages(rng: &mut Rng, records: &mut Vec<Record>) {
     let there = records.iter().filter(|r| r.kind == 2).count();
     let wanted = rng.pick(&[there + 1, 512, 513, 514]);
     for _ in there..wanted {
         records.insert(1, Record::new(2, vec![0; 8]));
     }
+    if let Some(last) = records.iter_mut().rfind(|r| r.kind == 2) {
+        if rng.percent(30) {
+            lengthen(rng, last);
+        }
+    }
 }
 
 fn swap_rows(rng: &mut Rng, records: &mut [Record]) {
-    let rows: Vec<_> = (0..records.len()).filter(|&i| records[i].kind == 3).collect();
+    let rows: Vec<_> = (0..records.len())
+        .filter(|&i| records[i].kind == 3)
+        .collect();
     if !rows.is_empty() {
         records.swap(rng.pick(&rows), rng.pick(&rows));
     }
@@ -682,17 +728,4 @@ fn fill_up(file: &mut Vec<u8>, length: usize) {
         file.extend([2, 0, 4, 0, 0, 0]);
     }
     file.resize(length.max(file.len()), 4);
-}
-
-/// A machine row with all states of a task open or unseen, for the bench.
-pub fn open_row(task: &Task, open: &[(usize, u32)]) -> Vec<u32> {
-    let mut row = vec![0; ROW];
-    let machine = Machine::open(task.head, task.graph()).expect("the bench's tasks are accepted");
-    rows::encode(&machine, &mut row);
-    row[MARKS + task.head.start] = 3;
-    for &(state, label) in open {
-        row[MARKS + state] = u32::from(OPEN);
-        row[LABELS + state] = label;
-    }
-    row
 }

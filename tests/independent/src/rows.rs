@@ -15,7 +15,7 @@ pub const VIAS: usize = LABELS + MAX_STATES;
 pub const HELD: usize = VIAS + MAX_STATES;
 
 /// The room that `print` asks for.
-pub const PRINT_ROOM: usize = 262_144;
+pub const PRINT_ROOM: usize = 589_824;
 
 /// A desk by number rows.
 pub trait RowDesk {
@@ -108,9 +108,15 @@ pub fn encode(machine: &Machine, row: &mut [u32]) {
     row[4] = u32::from(head.pull);
     row[5] = u32::from(head.excess);
     row[PHASE] = u32::from(machine.phase);
-    fill(&mut row[MARKS..LABELS], machine.marks.iter().map(|&m| u32::from(m)));
+    fill(
+        &mut row[MARKS..LABELS],
+        machine.marks.iter().map(|&m| u32::from(m)),
+    );
     row[LABELS..VIAS].copy_from_slice(&machine.labels);
-    fill(&mut row[VIAS..HELD], machine.vias.iter().map(|&v| u32::from(v)));
+    fill(
+        &mut row[VIAS..HELD],
+        machine.vias.iter().map(|&v| u32::from(v)),
+    );
     fill(&mut row[HELD..], machine.held.iter().map(|&h| u32::from(h)));
 }
 

@@ -130,7 +130,8 @@ impl Reader {
         if payload.len() != 2 + 4 * n || usize::from(two_bytes(payload)) != self.rows {
             return Err(22);
         }
-        self.estimates.extend(payload[2..].chunks_exact(4).map(four_bytes));
+        self.estimates
+            .extend(payload[2..].chunks_exact(4).map(four_bytes));
         self.rows += 1;
         Ok(())
     }

@@ -8,6 +8,8 @@ use denote.Ref.{now}
 use lib.ListN.{length-take, length-drop}
 use borrow.Author.Tests.{not-true, not-false}
 use Rattle.desk.specs.declared.Answer.{Answer}
+use Rattle.trail.specs.Laws.{path-within}
+use Rattle.desk.specs.Machine.{trailOf}
 use Rattle.desk.specs.Fits.{fits}
 use Rattle.desk.specs.Path.{Reading}
 use Rattle.desk.specs.Laws.{Fitting, fitting, inside, path-unfit, path-early, path-broken, path-short, path-read, path-way, path-written}
@@ -114,6 +116,13 @@ returns-6 c =
     let e = reads-as (path-read _ _ _ _ _ (fit (d .before)) (d .if2 .left) _ (l .before .path-length .ensures) (l .if3 .left) (c .before .before .before .before .before .before .if5 .left)) in
     (e .0, path-written (a .t1) (now (a .passages)) (now (a .buffer)) _ (a .at) _ (l .before .path-length .ensures) (c .before .before .write-back .ensures) ∙ e .1)
 
+cast-states : tie.Need-cast-states
+cast-states c =
+    let l = c .before .before .before .before .before .before .before .before in
+    let d = l .before .before .before .before .before in
+    let a = d .before .before .before .before .before .before .args in
+    omega (arith, l .before .path-length .ensures, path-within (trailOf (a .t1) (now (a .passages))), facts (d .before) .task .states)
+
 pub path-spec : {M : Type 1} → statement M
 path-spec =
     tie.close
@@ -136,5 +145,6 @@ path-spec =
     part-write-back-start
     part-write-back-end
     write-back-requires
+    cast-states
     same-length
     returns-6)

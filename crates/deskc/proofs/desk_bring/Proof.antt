@@ -1,0 +1,68 @@
+-- `desk_bring`: a row that holds no machine is left as it was; else the machine that it holds brings, and what changed is written back.
+use mathlib.Core.Path.{_≡_, refl, sym, _∙_}
+use mathlib.Core.Bool.{true}
+use denote.Ref.{now}
+use borrow.Author.Tests.{not-true, not-false}
+use borrow.Author.Needs.{needs}
+use Rattle.deskc.specs.Row.{isRow}
+use Rattle.deskc.specs.Calls.{bringRow}
+use Rattle.deskc.specs.Laws.{row-bounds}
+use Rattle.deskc.proofs.desk_bring.Statement.{statement}
+use Rattle.deskc.proofs.desk_bring.Tie as tie
+
+-- past the first test the row holds a machine
+module _ (c : tie.Else1) where
+  fit : isRow (now (c .before .before .before .before .before .before .args .machine)) ≡ true
+  fit = sym (c .before .is-row .ensures) ∙ not-false _ (c .if1 .left)
+
+is-row-requires : tie.Need-is-row-requires
+is-row-requires c κs = search needs
+
+unfit-requires : tie.Need-unfit-requires
+unfit-requires c κs = search needs
+
+same-length : tie.Need-same-length
+same-length c = search needs
+
+returns : tie.Need-returns
+unfolding bringRow
+returns c = let e = sym (c .before .before .is-row .ensures) ∙ not-true _ (c .before .if1 .taken) in (rw e (c .unfit .ensures), rw e refl)
+
+unpack-requires : tie.Need-unpack-requires
+unpack-requires c κs = fit (c .before)
+
+bring-requires : tie.Need-bring-requires
+bring-requires c κs = search needs
+
+put-changing-requires : tie.Need-put-changing-requires
+put-changing-requires c κs = row-bounds _ (fit (c .before .before .before .before .before)) .long
+
+code-requires : tie.Need-code-requires
+code-requires c κs = search needs
+
+same-length-2 : tie.Need-same-length-2
+same-length-2 c = search needs
+
+returns-2 : tie.Need-returns-2
+unfolding bringRow
+returns-2 c =
+    let p = c .before .before .before in
+    let t = p .before .before .before in
+    let u = t .before in
+    let e = fit (u .before .before) in
+    (rw (e, ← (u .unpack .ensures), ← (t .bring .ensures)) (c .code .ensures), rw (e, ← (u .unpack .ensures), ← (t .bring .ensures)) (p .put-changing .ensures))
+
+pub desk-bring-spec : {M : Type 1} → statement M
+desk-bring-spec =
+    tie.close
+    (tie.spec
+    is-row-requires
+    unfit-requires
+    same-length
+    returns
+    unpack-requires
+    bring-requires
+    put-changing-requires
+    code-requires
+    same-length-2
+    returns-2)

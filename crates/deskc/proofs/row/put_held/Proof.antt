@@ -1,0 +1,73 @@
+-- `row::put_held`: before turn w the first w places of the row's held states hold the list's first w.
+use Prim.Native.Nat.{_≤_, _-_}
+use denote.Ref.{now}
+use lib.ListN.{getD}
+use borrow.Author.Needs.{needs}
+use Rattle.laws.specs.Fill.{Filled, filled-zero, filled-more}
+use Rattle.deskc.specs.Laws.{filled-list}
+use Rattle.deskc.proofs.row.put_held.Statement.{statement}
+use Rattle.deskc.proofs.row.put_held.Tie as tie
+
+abbrev Inv-loop : tie.InvT-loop
+Inv-loop row₀ held w₀ row w = (w ≤ 32) × Filled (λ i. getD held i 0) 775 row₀ row w
+
+abbrev μ-loop : tie.MeasureT-loop
+μ-loop row₀ held w₀ row w = 32 - w
+
+loop-holds : tie.Need-loop-holds Inv-loop μ-loop
+loop-holds c = (search needs, filled-zero _ _ _)
+
+mul-wide16 : tie.Need-mul-wide16 Inv-loop μ-loop
+mul-wide16 c = search needs
+
+element-copy-out-wide16 : tie.Need-element-copy-out-wide16 Inv-loop μ-loop
+element-copy-out-wide16 c = search needs
+
+wide16-requires : tie.Need-wide16-requires Inv-loop μ-loop
+wide16-requires c κs = search needs
+
+add-row : tie.Need-add-row Inv-loop μ-loop
+add-row c = search needs
+
+mul-row : tie.Need-mul-row Inv-loop μ-loop
+mul-row c = search needs
+
+slice-write-row : tie.Need-slice-write-row Inv-loop μ-loop
+slice-write-row c = search needs
+
+add-w : tie.Need-add-w Inv-loop μ-loop
+add-w c = search needs
+
+loop-less : tie.Need-loop-less Inv-loop μ-loop
+loop-less c = search needs
+
+loop-again : tie.Need-loop-again Inv-loop μ-loop
+loop-again c = let l = c .before .before .before .loop in (search needs, filled-more _ _ _ _ (l .w) (l .inv .1) (search needs) _ (c .wide16 .ensures))
+
+same-length : tie.Need-same-length Inv-loop μ-loop
+same-length c = search needs
+
+returns : tie.Need-returns Inv-loop μ-loop
+returns c =
+    let l = c .before .loop in
+    let e = c .before .before .before in
+    filled-list (now (e .args .held)) 0 _ 32 _ _ (l .w) (l .inv .1) (e .pre .1) (l .inv .0) (c .loop-test .left)
+
+pub put-held-spec : {M : Type 1} → statement M
+put-held-spec =
+    tie.close
+    (tie.spec
+    Inv-loop
+    μ-loop
+    loop-holds
+    mul-wide16
+    element-copy-out-wide16
+    wide16-requires
+    add-row
+    mul-row
+    slice-write-row
+    add-w
+    loop-less
+    loop-again
+    same-length
+    returns)

@@ -1,0 +1,160 @@
+-- What the functions over rows rest on: lists by their places, what a row that holds a machine says, and machines written into rows.
+use mathlib.Core.Path.{_≡_, refl, sym, ap, _∙_}
+use mathlib.Core.Bool.{Bool, true, false}
+use mathlib.Core.List.{List, [], _∷_, _++_, append-nil, append-assoc}
+use mathlib.Core.Logic.{⊎-elim}
+use Prim.Native.Nat.{ℕ, zero, suc, _+_, _≤_, _<_}
+use native.Mathlib.Nat.{le-of-suc-le-suc, not-suc-le-zero, eq-or-lt-of-le, zero-add}
+use native.Mathlib.Omega.{arith}
+use lib.ListN.{length, getD, set, take, drop, length-append, length-take, length-drop, drop-of-length-le, List·getD-append, take-append-drop}
+use lib.Seq.{ext-getD, getD-at, getD-take, getD-drop, drop-drop, set-getD}
+use lib.Dec.{leb, eqb}
+use borrow.Author.Tests.{eqb-true, leb-true}
+use Rattle.laws.specs.Truth.{and-left, and-right}
+use Rattle.laws.specs.All.{all-at}
+use Rattle.laws.specs.Part.{overlaid}
+use Rattle.laws.specs.Fill.{made, made-length, Filled, filled-more, filled-end, overlaid-one, overlaid-next}
+use Rattle.checks.specs.Opening.{Task, fault}
+use Rattle.checks.specs.Laws.{right, fault-none}
+use Rattle.desk.specs.declared.Machine.{Machine}
+use Rattle.desk.specs.Opening.{openingOf, openedMachine, blankMachine}
+use Rattle.deskc.specs.Row.{atMost, isRow, part, unpacked, changing, changed, packed}
+
+-- a list made of elements has them at its places, and a list made of another's places is that list
+pub made-at : {X : Type 0} (f : ℕ → X) (n i : ℕ) (d : X) → i < n → getD (made f n) i d ≡ f i
+unfolding made
+made-at f zero i d l = absurd (not-suc-le-zero l)
+made-at f (suc n) i d l =
+    ⊎-elim
+    (λ q. rw q (getD-at (made f n) (f n) [] d n (made-length f n)))
+    (λ lt. List·getD-append (made f n) (f n ∷ []) d i (omega (arith, made-length f n)) ∙ made-at f n i d lt)
+    (eq-or-lt-of-le (le-of-suc-le-suc l))
+
+pub made-places : {X : Type 0} (l : List X) (d : X) (n : ℕ) → length l ≡ n → made (λ i. getD l i d) n ≡ l
+made-places l d n e = ext-getD d (made (λ i. getD l i d) n) l (made-length (λ i. getD l i d) n ∙ sym e) (λ i h. made-at (λ i. getD l i d) n i d (omega (arith, made-length (λ i. getD l i d) n)))
+
+-- a list as long as the one that it is written over is all that is left
+pub overlaid-whole : {X : Type 0} (xs l : List X) → length xs ≡ length l → overlaid 0 xs l ≡ xs
+overlaid-whole xs l e = rw (drop-of-length-le l {i = 0 + length xs} (omega arith), append-nil)
+
+-- a loop that fills from the front, of one place more, and at the end of a list that it filled whole
+pub filled-front : {X : Type 0} (f : ℕ → X) (l₀ l : List X) (i : ℕ) → Filled f 0 l₀ l i → i < length l₀ → (v : X) → v ≡ f i → Filled f 0 l₀ (set l i v) (i + 1)
+filled-front f l₀ l i w h v e = rw zero-add at (filled-more f 0 l₀ l i w (omega arith) v e)
+
+pub filled-whole : {X : Type 0} (f : ℕ → X) (n : ℕ) (l₀ l : List X) (i : ℕ) → Filled f 0 l₀ l i → length l₀ ≡ n → i ≤ n → n ≤ i → l ≡ made f n
+filled-whole f n l₀ l i w e a b = filled-end f 0 n l₀ l i w a b ∙ overlaid-whole (made f n) l₀ (made-length f n ∙ sym e)
+
+-- a loop that wrote each place of a list wrote the list
+pub filled-list : {X : Type 0} (xs : List X) (d : X) (at n : ℕ) (l₀ l : List X) (i : ℕ) → Filled (λ i. getD xs i d) at l₀ l i → length xs ≡ n → i ≤ n → n ≤ i → l ≡ overlaid at xs l₀
+filled-list {X} xs d at n l₀ l i w e a b = filled-end (λ i. getD xs i d) at n l₀ l i w a b ∙ ap (λ (ys : List X). overlaid at ys l₀) (made-places xs d n e)
+
+-- a list's own places, written where they stand, leave it as it was
+pub part-length : (l : List ℕ) (at n : ℕ) → length (part l at n) ≡ n
+unfolding part
+part-length l at n = made-length (λ i. getD l (at + i) 0) n
+
+pub part-taken : (l : List ℕ) (at n : ℕ) → at + n ≤ length l → part l at n ≡ take n (drop at l)
+unfolding part
+part-taken l at n h =
+    ext-getD 0 (made (λ i. getD l (at + i) 0) n) (take n (drop at l))
+    (made-length (λ i. getD l (at + i) 0) n ∙ simp (length-take, length-drop) (omega arith))
+    (λ i q.
+    let q′ : i < n = omega (arith, made-length (λ i. getD l (at + i) 0) n) in
+    made-at (λ i. getD l (at + i) 0) n i 0 q′ ∙ sym (getD-take n (drop at l) i 0 q′ ∙ getD-drop at l i 0))
+
+pub own-part : (l : List ℕ) (at n : ℕ) → at + n ≤ length l → overlaid at (part l at n) l ≡ l
+own-part l at n h =
+    rw (part-length l at n, part-taken l at n h, ← drop-drop n at l, take-append-drop n (drop at l), take-append-drop at l)
+
+pub own-next : {X : Type 0} (at k : ℕ) (l xs ys : List X) → overlaid at xs l ≡ l → overlaid k ys l ≡ l → k ≡ at + length xs → k ≤ length l → overlaid at (xs ++ ys) l ≡ l
+own-next at k l xs ys p q e h = sym (overlaid-next at k l l xs ys (sym p) e h) ∙ q
+
+-- what a row that holds a machine says of its places
+pub record Bounds (row : List ℕ) : Type 0 where
+  pub long : length row ≡ 807
+  pub weights : (i : ℕ) → i < 2 → getD row (4 + i) 0 ≤ 65535
+  pub phase : (i : ℕ) → i < 1 → getD row (6 + i) 0 ≤ 255
+  pub marks : (i : ℕ) → i < 256 → getD row (7 + i) 0 ≤ 255
+  pub vias : (i : ℕ) → i < 256 → getD row (519 + i) 0 ≤ 65535
+  pub workers : (i : ℕ) → i < 32 → getD row (775 + i) 0 ≤ 65535
+
+at-most-at : (row : List ℕ) (from count most : ℕ) → atMost row from count most ≡ true → (i : ℕ) → i < count → getD row (from + i) 0 ≤ most
+unfolding atMost
+at-most-at row from count most e i l = leb-true _ _ (all-at (λ i. leb (getD row (from + i) 0) most) count i e l)
+
+pub row-bounds : (row : List ℕ) → isRow row ≡ true → Bounds row
+unfolding isRow
+row-bounds row e =
+    let e₁ = and-right (eqb (length row) 807) _ e in
+    let e₂ = and-right (atMost row 4 2 65535) _ e₁ in
+    let e₃ = and-right (atMost row 6 1 255) _ e₂ in
+    let e₄ = and-right (atMost row 7 256 255) _ e₃ in
+    record {
+      long = eqb-true _ _ (and-left (eqb (length row) 807) _ e);
+      weights = at-most-at row 4 2 65535 (and-left (atMost row 4 2 65535) _ e₁);
+      phase = at-most-at row 6 1 255 (and-left (atMost row 6 1 255) _ e₂);
+      marks = at-most-at row 7 256 255 (and-left (atMost row 7 256 255) _ e₃);
+      vias = at-most-at row 519 256 65535 (and-left (atMost row 519 256 65535) _ e₄);
+      workers = at-most-at row 775 32 65535 (and-right (atMost row 519 256 65535) _ e₄);
+    }
+
+-- a machine whose rows are of their types' lengths
+pub record Sized (m : Machine) : Type 0 where
+  pub marks : length (m .mark) ≡ 256
+  pub labels : length (m .label) ≡ 256
+  pub vias : length (m .via) ≡ 256
+  pub workers : length (m .held) ≡ 32
+
+pub changing-length : (m : Machine) → Sized m → length (changing m) ≡ 801
+unfolding changing
+changing-length m s = simp length-append (omega (arith, s .marks, s .labels, s .vias, s .workers))
+
+-- the phase and the four lists, written one after the other, are what a call can change
+in-a-row : (a b c d : List ℕ) → ((a ++ b) ++ c) ++ d ≡ a ++ (b ++ (c ++ d))
+in-a-row a b c d = simp append-assoc
+
+pub changed-parts : (row : List ℕ) (m : Machine) → length row ≡ 807 → Sized m → (r₁ r₂ r₃ r₄ r₅ : List ℕ) → r₁ ≡ set row 6 (m .phase) → r₂ ≡ overlaid 7 (m .mark) r₁ → r₃ ≡ overlaid 263 (m .label) r₂ → r₄ ≡ overlaid 519 (m .via) r₃ → r₅ ≡ overlaid 775 (m .held) r₄ → r₅ ≡ changed row m
+unfolding changed changing
+changed-parts row m l s r₁ r₂ r₃ r₄ r₅ e₁ e₂ e₃ e₄ e₅ =
+    let p₁ : r₁ ≡ overlaid 6 (m .phase ∷ []) row = e₁ ∙ overlaid-one 6 row (m .phase) (omega arith) in
+    let p₂ : r₂ ≡ overlaid 6 ((m .phase ∷ []) ++ m .mark) row =
+    e₂ ∙ overlaid-next 6 7 row r₁ (m .phase ∷ []) (m .mark) p₁ (omega arith) (omega arith) in
+    let p₃ : r₃ ≡ overlaid 6 (((m .phase ∷ []) ++ m .mark) ++ m .label) row =
+    e₃ ∙ overlaid-next 6 263 row r₂ ((m .phase ∷ []) ++ m .mark) (m .label) p₂ (omega (arith, s .marks)) (omega arith) in
+    let p₄ : r₄ ≡ overlaid 6 ((((m .phase ∷ []) ++ m .mark) ++ m .label) ++ m .via) row =
+    e₄ ∙ overlaid-next 6 519 row r₃ (((m .phase ∷ []) ++ m .mark) ++ m .label) (m .via) p₃ (simp length-append (omega (arith, s .marks, s .labels))) (omega arith) in
+    let p₅ : r₅ ≡ overlaid 6 (((((m .phase ∷ []) ++ m .mark) ++ m .label) ++ m .via) ++ m .held) row =
+    e₅ ∙ overlaid-next 6 775 row r₄ ((((m .phase ∷ []) ++ m .mark) ++ m .label) ++ m .via) (m .held) p₄ (simp length-append (omega (arith, s .marks, s .labels, s .vias))) (omega arith) in
+    p₅ ∙ ap (λ (xs : List ℕ). overlaid 6 (m .phase ∷ xs) row) (in-a-row (m .mark) (m .label) (m .via) (m .held))
+
+-- the task's six numbers and what a call can change are the whole row
+pub packed-parts : (row r : List ℕ) (m : Machine) → length row ≡ 807 → Sized m → r ≡ overlaid 0 (m .n ∷ m .k ∷ m .start ∷ m .goal ∷ m .pull ∷ m .excess ∷ []) row → changed r m ≡ packed m
+unfolding changed packed
+packed-parts row r m l s e =
+    overlaid-next 0 6 row r (m .n ∷ m .k ∷ m .start ∷ m .goal ∷ m .pull ∷ m .excess ∷ []) (changing m) e (omega arith) (omega arith)
+    ∙ overlaid-whole (m .n ∷ m .k ∷ m .start ∷ m .goal ∷ m .pull ∷ m .excess ∷ changing m) row (omega (arith, changing-length m s))
+
+-- a machine that opening hands back has numbers of 32 bits
+pub opened-small : (t : Task) → ((openingOf t .machine .n < 4294967296) × (openingOf t .machine .k < 4294967296)) × ((openingOf t .machine .start < 4294967296) × (openingOf t .machine .goal < 4294967296))
+unfolding openingOf openedMachine blankMachine
+opened-small t = go (eqb (fault t) 0) refl
+  where
+    go : (b : Bool) → eqb (fault t) 0 ≡ b → ((openingOf t .machine .n < 4294967296) × (openingOf t .machine .k < 4294967296)) × ((openingOf t .machine .start < 4294967296) × (openingOf t .machine .goal < 4294967296))
+    go true e =
+        let r = right t (fault-none t (eqb-true _ _ e)) in
+        rw e ((omega (arith, r .states), omega (arith, r .workers)), (omega (arith, r .states, r .start-in), omega (arith, r .states, r .goal-in)))
+    go false e = rw e ((omega arith, omega arith), (omega arith, omega arith))
+
+-- a machine handed back as it came leaves the row as it was: a refused call writes nothing
+pub changed-unpacked : (row : List ℕ) → isRow row ≡ true → changed row (unpacked row) ≡ row
+unfolding changed changing unpacked
+changed-unpacked row e =
+    let l = row-bounds row e .long in
+    let held : overlaid 775 (part row 775 32) row ≡ row = own-part row 775 32 (omega arith) in
+    let via : overlaid 519 (part row 519 256 ++ part row 775 32) row ≡ row =
+    own-next 519 775 row (part row 519 256) _ (own-part row 519 256 (omega arith)) held (omega (arith, part-length row 519 256)) (omega arith) in
+    let label : overlaid 263 (part row 263 256 ++ (part row 519 256 ++ part row 775 32)) row ≡ row =
+    own-next 263 519 row (part row 263 256) _ (own-part row 263 256 (omega arith)) via (omega (arith, part-length row 263 256)) (omega arith) in
+    let mark : overlaid 7 (part row 7 256 ++ (part row 263 256 ++ (part row 519 256 ++ part row 775 32))) row ≡ row =
+    own-next 7 263 row (part row 7 256) _ (own-part row 7 256 (omega arith)) label (omega (arith, part-length row 7 256)) (omega arith) in
+    own-next 6 7 row (getD row 6 0 ∷ []) (part row 7 256 ++ (part row 263 256 ++ (part row 519 256 ++ part row 775 32))) (sym (overlaid-one 6 row (getD row 6 0) (omega arith)) ∙ set-getD row 6 0) mark (omega arith) (omega arith)

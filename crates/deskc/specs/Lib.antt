@@ -1,0 +1,4 @@
+-- The desk behind a C interface: a machine as a row of 32-bit numbers.
+pub mod Row
+pub mod Calls
+pub mod Laws

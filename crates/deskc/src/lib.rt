@@ -1,0 +1,106 @@
+// The desk for C: opening, Take, Bring, path reading and printing, over numbers and lent rows of numbers.
+// include/route_desk.h declares each.
+ghost use mathlib.Core.Path.{_≡_};
+ghost use Rattle.checks.specs.Opening.{task};
+ghost use Rattle.report.specs.Text.{reportLength, reportBuffer};
+ghost use Rattle.deskc.specs.Calls.{openRow, takeRow, bringRow, pathRow};
+
+mod row;
+
+use desk::Machine;
+
+#[no_mangle]
+pub extern "C" fn desk_open(
+    n: usize,
+    k: usize,
+    start: usize,
+    goal: usize,
+    pull: u16,
+    excess: u16,
+    passages: &[u32],
+    estimates: &[u32],
+    machine: &mut [u32],
+) -> u64
+    ensures { λ r. ⌜ r ≡ openRow (task n k start goal pull excess (now (passages .entry)) (now (estimates .entry))) (now (machine .entry)) .code ⌝ }
+    ensures { λ r. ⌜ now (machine .exit) ≡ openRow (task n k start goal pull excess (now (passages .entry)) (now (estimates .entry))) (now (machine .entry)) .row ⌝ }
+{
+    if machine.len() != 807 {
+        return row::unfit();
+    }
+    let answer = Machine::opening(n, k, start, goal, pull, excess, passages, estimates);
+    let reply = answer.reply;
+    let m = answer.machine;
+    row::put_head(machine, m);
+    row::put_changing(machine, m);
+    desk::code(reply)
+}
+
+#[no_mangle]
+pub extern "C" fn desk_take(
+    machine: &mut [u32],
+    passages: &[u32],
+    estimates: &[u32],
+    worker: usize,
+) -> u64
+    ensures { λ r. ⌜ r ≡ takeRow (now (machine .entry)) (now (passages .entry)) (now (estimates .entry)) worker .code ⌝ }
+    ensures { λ r. ⌜ now (machine .exit) ≡ takeRow (now (machine .entry)) (now (passages .entry)) (now (estimates .entry)) worker .row ⌝ }
+{
+    if !row::is_row(machine) {
+        return row::unfit();
+    }
+    let m = row::unpack(machine);
+    let answer = m.take(passages, estimates, worker);
+    let reply = answer.reply;
+    let next = answer.machine;
+    row::put_changing(machine, next);
+    desk::code(reply)
+}
+
+#[no_mangle]
+pub extern "C" fn desk_bring(
+    machine: &mut [u32],
+    passages: &[u32],
+    estimates: &[u32],
+    worker: usize,
+) -> u64
+    ensures { λ r. ⌜ r ≡ bringRow (now (machine .entry)) (now (passages .entry)) (now (estimates .entry)) worker .code ⌝ }
+    ensures { λ r. ⌜ now (machine .exit) ≡ bringRow (now (machine .entry)) (now (passages .entry)) (now (estimates .entry)) worker .row ⌝ }
+{
+    if !row::is_row(machine) {
+        return row::unfit();
+    }
+    let m = row::unpack(machine);
+    let answer = m.bring(passages, estimates, worker);
+    let reply = answer.reply;
+    let next = answer.machine;
+    row::put_changing(machine, next);
+    desk::code(reply)
+}
+
+#[no_mangle]
+pub extern "C" fn desk_path(
+    machine: &[u32],
+    passages: &[u32],
+    estimates: &[u32],
+    buffer: &mut [u16],
+    at: usize,
+) -> u64
+    ensures { λ r. ⌜ r ≡ pathRow (now (machine .entry)) (now (passages .entry)) (now (estimates .entry)) (now (buffer .entry)) at .code ⌝ }
+    ensures { λ r. ⌜ now (buffer .exit) ≡ pathRow (now (machine .entry)) (now (passages .entry)) (now (estimates .entry)) (now (buffer .entry)) at .buffer ⌝ }
+{
+    if !row::is_row(machine) {
+        return row::unfit();
+    }
+    let m = row::unpack(machine);
+    let answer = m.path(passages, estimates, buffer, at);
+    let reply = answer.reply;
+    desk::code(reply)
+}
+
+#[no_mangle]
+pub extern "C" fn desk_print(file: &[u8], text: &mut [u8]) -> usize
+    ensures { λ r. ⌜ r ≡ reportLength (now (file .entry)) (now (text .entry)) ⌝ }
+    ensures { λ r. ⌜ now (text .exit) ≡ reportBuffer (now (file .entry)) (now (text .entry)) ⌝ }
+{
+    report::report(file, text)
+}

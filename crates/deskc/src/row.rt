@@ -1,0 +1,205 @@
+// A machine as a row of 32-bit numbers: tested, unpacked, and written back.
+ghost use mathlib.Core.Path.{_≡_};
+ghost use mathlib.Core.Bool.{true};
+ghost use mathlib.Core.List.{[], _∷_};
+ghost use Prim.Native.Nat.{ℕ, _+_, _≤_, _<_};
+ghost use lib.ListN.{length};
+ghost use Rattle.laws.specs.Part.{overlaid};
+ghost use Rattle.desk.specs.declared.Reply.the-variants.{Refused};
+ghost use Rattle.desk.specs.Reply.{codeOf};
+ghost use Rattle.deskc.specs.Row.{atMost, isRow, part, unpacked, changed};
+use desk::Machine;
+use desk::Reply;
+
+// Refusal 8, as a number.
+pub fn unfit() -> u64
+    ensures { λ r. ⌜ r ≡ codeOf (Refused 8) ⌝ }
+{
+    desk::code(Reply::Refused(8))
+}
+
+// The numbers from a place on are at most so large.
+pub fn at_most(row: &[u32], from: usize, count: usize, most: u32) -> bool
+    requires { ⌜ from + count ≤ length (now row) ⌝ }
+    ensures { λ r. ⌜ r ≡ atMost (now (row .entry)) from count most ⌝ }
+{
+    for i in 0..count {
+        if row[from + i] > most {
+            return false;
+        }
+    }
+    true
+}
+
+// A row holds a machine.
+pub fn is_row(row: &[u32]) -> bool
+    ensures { λ r. ⌜ r ≡ isRow (now (row .entry)) ⌝ }
+{
+    if row.len() != 807 {
+        return false;
+    }
+    if !at_most(row, 4, 2, 65535) {
+        return false;
+    }
+    if !at_most(row, 6, 1, 255) {
+        return false;
+    }
+    if !at_most(row, 7, 256, 255) {
+        return false;
+    }
+    if !at_most(row, 519, 256, 65535) {
+        return false;
+    }
+    at_most(row, 775, 32, 65535)
+}
+
+// The marks.
+pub fn marks(row: &[u32]) -> [u8; 256]
+    requires { ⌜ isRow (now row) ≡ true ⌝ }
+    ensures { λ r. ⌜ r ≡ part (now (row .entry)) 7 256 ⌝ }
+{
+    let mut mark = [0u8; 256];
+    for s in 0..256 {
+        mark[s] = row[7 + s] as u8;
+    }
+    mark
+}
+
+// The labels.
+pub fn labels(row: &[u32]) -> [u32; 256]
+    requires { ⌜ isRow (now row) ≡ true ⌝ }
+    ensures { λ r. ⌜ r ≡ part (now (row .entry)) 263 256 ⌝ }
+{
+    let mut label = [0u32; 256];
+    for s in 0..256 {
+        label[s] = row[263 + s];
+    }
+    label
+}
+
+// The passage numbers.
+pub fn vias(row: &[u32]) -> [u16; 256]
+    requires { ⌜ isRow (now row) ≡ true ⌝ }
+    ensures { λ r. ⌜ r ≡ part (now (row .entry)) 519 256 ⌝ }
+{
+    let mut via = [0u16; 256];
+    for s in 0..256 {
+        via[s] = row[519 + s] as u16;
+    }
+    via
+}
+
+// The held states.
+pub fn held_states(row: &[u32]) -> [u16; 32]
+    requires { ⌜ isRow (now row) ≡ true ⌝ }
+    ensures { λ r. ⌜ r ≡ part (now (row .entry)) 775 32 ⌝ }
+{
+    let mut held = [0u16; 32];
+    for w in 0..32 {
+        held[w] = row[775 + w] as u16;
+    }
+    held
+}
+
+// The machine that a row holds.
+pub fn unpack(row: &[u32]) -> Machine
+    requires { ⌜ isRow (now row) ≡ true ⌝ }
+    ensures { λ r. ⌜ r ≡ unpacked (now (row .entry)) ⌝ }
+{
+    let mark = marks(row);
+    let label = labels(row);
+    let via = vias(row);
+    let held = held_states(row);
+    Machine {
+        n: row[0] as usize,
+        k: row[1] as usize,
+        start: row[2] as usize,
+        goal: row[3] as usize,
+        pull: row[4] as u16,
+        excess: row[5] as u16,
+        phase: row[6] as u8,
+        mark: mark,
+        label: label,
+        via: via,
+        held: held,
+    }
+}
+
+// Numbers of 8 bits, written from a place on.
+pub fn put_marks(row: &mut [u32], mark: &[u8; 256])
+    requires { ⌜ (length (now row) ≡ 807) × (length (now mark) ≡ 256) ⌝ }
+    ensures { λ _. ⌜ now (row .exit) ≡ overlaid 7 (now (mark .entry)) (now (row .entry)) ⌝ }
+{
+    for s in 0..256 {
+        row[7 + s] = wide8(mark[s]);
+    }
+}
+
+// A number of 8 bits as one of 32.
+pub fn wide8(x: u8) -> u32
+    ensures { λ r. ⌜ r ≡ x ⌝ }
+{
+    x as u32
+}
+
+// A number of 16 bits as one of 32.
+pub fn wide16(x: u16) -> u32
+    ensures { λ r. ⌜ r ≡ x ⌝ }
+{
+    x as u32
+}
+
+// The labels, written.
+pub fn put_labels(row: &mut [u32], label: &[u32; 256])
+    requires { ⌜ (length (now row) ≡ 807) × (length (now label) ≡ 256) ⌝ }
+    ensures { λ _. ⌜ now (row .exit) ≡ overlaid 263 (now (label .entry)) (now (row .entry)) ⌝ }
+{
+    for s in 0..256 {
+        row[263 + s] = label[s];
+    }
+}
+
+// The passage numbers, written.
+pub fn put_vias(row: &mut [u32], via: &[u16; 256])
+    requires { ⌜ (length (now row) ≡ 807) × (length (now via) ≡ 256) ⌝ }
+    ensures { λ _. ⌜ now (row .exit) ≡ overlaid 519 (now (via .entry)) (now (row .entry)) ⌝ }
+{
+    for s in 0..256 {
+        row[519 + s] = wide16(via[s]);
+    }
+}
+
+// The held states, written.
+pub fn put_held(row: &mut [u32], held: &[u16; 32])
+    requires { ⌜ (length (now row) ≡ 807) × (length (now held) ≡ 32) ⌝ }
+    ensures { λ _. ⌜ now (row .exit) ≡ overlaid 775 (now (held .entry)) (now (row .entry)) ⌝ }
+{
+    for w in 0..32 {
+        row[775 + w] = wide16(held[w]);
+    }
+}
+
+// What a call can change: the phase and the numbers of states and workers.
+pub fn put_changing(row: &mut [u32], m: Machine)
+    requires { ⌜ length (now row) ≡ 807 ⌝ }
+    ensures { λ _. ⌜ now (row .exit) ≡ changed (now (row .entry)) m ⌝ }
+{
+    row[6] = wide8(m.phase);
+    put_marks(row, &m.mark);
+    put_labels(row, &m.label);
+    put_vias(row, &m.via);
+    put_held(row, &m.held);
+}
+
+// What a call can't change: the task's six numbers.
+pub fn put_head(row: &mut [u32], m: Machine)
+    requires { ⌜ (length (now row) ≡ 807) × (((m .n < 4294967296) × (m .k < 4294967296)) × ((m .start < 4294967296) × (m .goal < 4294967296))) ⌝ }
+    ensures { λ _. ⌜ now (row .exit) ≡ overlaid 0 (m .n ∷ m .k ∷ m .start ∷ m .goal ∷ m .pull ∷ m .excess ∷ []) (now (row .entry)) ⌝ }
+{
+    row[0] = m.n as u32;
+    row[1] = m.k as u32;
+    row[2] = m.start as u32;
+    row[3] = m.goal as u32;
+    row[4] = wide16(m.pull);
+    row[5] = wide16(m.excess);
+}

@@ -1,0 +1,73 @@
+-- A buffer filled from a place on, front to back: lists by their elements, and lists written over a buffer one after the other.
+-- Assumes nothing.
+use mathlib.Core.Path.{_≡_, refl, sym, ap, _∙_}
+use mathlib.Core.List.{List, [], _∷_, _++_, append-assoc}
+use Prim.Native.Nat.{ℕ, zero, suc, _+_, _≤_, _<_}
+use native.Mathlib.Nat.{add-zero, add-assoc}
+use native.Mathlib.Numerals.{add-one}
+use native.Mathlib.Omega.{arith}
+use lib.ListN.{length, set, take, drop, length-append, length-take, length-drop, length-set, take-append-drop}
+use lib.Seq.{set-split, take-at, drop-at, drop-drop}
+use Rattle.laws.specs.Part.{overlaid}
+
+-- f 0, f 1, .. f (n - 1)
+unfoldable pub made : {X : Type 0} → (ℕ → X) → ℕ → List X
+made f zero = []
+made f (suc i) = made f i ++ (f i ∷ [])
+
+pub made-more : {X : Type 0} (f : ℕ → X) (i : ℕ) → made f (i + 1) ≡ made f i ++ (f i ∷ [])
+unfolding made
+made-more f i = rw add-one
+
+pub made-length : {X : Type 0} (f : ℕ → X) (n : ℕ) → length (made f n) ≡ n
+unfolding made
+made-length f zero = refl
+made-length f (suc i) = length-append (made f i) (f i ∷ []) ∙ omega (arith, made-length f i)
+
+-- nothing written; the length stays; one list written after another is both in a row
+module _ {X : Type 0} (at : ℕ) (l : List X) where
+  pub overlaid-none : l ≡ overlaid at [] l
+  overlaid-none = sym (rw add-zero (take-append-drop at l))
+
+  module _ (xs : List X) (room : at + length xs ≤ length l) where
+    pub overlaid-length : length (overlaid at xs l) ≡ length l
+    overlaid-length = simp (length-append, length-take, length-drop) (omega arith)
+
+    front : take (at + length xs) (overlaid at xs l) ≡ take at l ++ xs
+    front = rw (← append-assoc (take at l) xs (drop (at + length xs) l)) (take-at (take at l ++ xs) (drop (at + length xs) l) (at + length xs) (simp (length-append, length-take) (omega arith)))
+
+    behind : (k : ℕ) → drop (at + length xs + k) (overlaid at xs l) ≡ drop (at + length xs + k) l
+    behind k =
+        rw (← append-assoc (take at l) xs (drop (at + length xs) l), ← drop-drop k (at + length xs) ((take at l ++ xs) ++ drop (at + length xs) l))
+        (ap (drop k) (drop-at (take at l ++ xs) (drop (at + length xs) l) (at + length xs) (simp (length-append, length-take) (omega arith))) ∙ drop-drop k (at + length xs) l)
+
+    pub overlaid-more : (ys : List X) → overlaid (at + length xs) ys (overlaid at xs l) ≡ overlaid at (xs ++ ys) l
+    overlaid-more ys = rw (front, behind (length ys), append-assoc, append-assoc, length-append, add-assoc)
+
+-- one place stored
+pub overlaid-one : {X : Type 0} (at : ℕ) (l : List X) (v : X) → at < length l → set l at v ≡ overlaid at (v ∷ []) l
+overlaid-one at l v h = rw add-one (set-split l at v h)
+
+-- one list more, written after those that stand there
+pub overlaid-next : {X : Type 0} (at k : ℕ) (l₀ l xs ys : List X) → l ≡ overlaid at xs l₀ → k ≡ at + length xs → k ≤ length l₀ → overlaid k ys l ≡ overlaid at (xs ++ ys) l₀
+overlaid-next at k l₀ l xs ys e q r = rw (e, q) (overlaid-more at l₀ xs (omega arith) ys)
+
+-- what a loop that fills knows at i: the places from `at` on hold the first i elements
+pub record Filled {X : Type 0} (f : ℕ → X) (at : ℕ) (l₀ l : List X) (i : ℕ) : Type 0 where
+  pub done : l ≡ overlaid at (made f i) l₀
+  pub long : length l ≡ length l₀
+
+pub filled-zero : {X : Type 0} (f : ℕ → X) (at : ℕ) (l : List X) → Filled f at l l 0
+unfolding made
+filled-zero f at l = record { done = overlaid-none at l; long = refl }
+
+pub filled-more : {X : Type 0} (f : ℕ → X) (at : ℕ) (l₀ l : List X) (i : ℕ) → Filled f at l₀ l i → at + i < length l₀ → (v : X) → v ≡ f i → Filled f at l₀ (set l (at + i) v) (i + 1)
+filled-more {X} f at l₀ l i w h v e =
+    let q : at + i ≡ at + length (made f i) = omega (arith, made-length f i) in
+    record {
+      done = overlaid-one (at + i) l v (omega (arith, w .long)) ∙ rw e (overlaid-next at (at + i) l₀ l (made f i) (f i ∷ []) (w .done) q (omega arith)) ∙ ap (λ (xs : List X). overlaid at xs l₀) (sym (made-more f i));
+      long = length-set l (at + i) v ∙ w .long;
+    }
+
+pub filled-end : {X : Type 0} (f : ℕ → X) (at n : ℕ) (l₀ l : List X) (i : ℕ) → Filled f at l₀ l i → i ≤ n → n ≤ i → l ≡ overlaid at (made f n) l₀
+filled-end f at n l₀ l i w a b = let q : i ≡ n = omega arith in rw q at (w .done)

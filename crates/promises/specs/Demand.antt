@@ -1,0 +1,96 @@
+-- Demand 3, as statements about the desk's definitions: runs from an accepted opening, routes, and what is promised of them.
+use mathlib.Core.Path.{_≡_}
+use mathlib.Core.Bool.{cond, true}
+use mathlib.Core.Logic.{_≢_}
+use mathlib.Core.List.{List, [], _∷_, _++_, map}
+use Prim.Native.Nat.{ℕ, _+_, _-_, _*_, _≤_, _<_}
+use lib.ListN.{length}
+use lib.Dec.{eqb}
+use Rattle.laws.specs.Part.{overlaid}
+use Rattle.rule.specs.Task.{passageCount, near, far, cost}
+use Rattle.argument.specs.Route.{Graph, Walk, costOf}
+use Rattle.checks.specs.Opening.{Task}
+use Rattle.desk.specs.declared.Machine.{Machine}
+use Rattle.desk.specs.declared.Reply.{Reply}
+use Rattle.desk.specs.declared.Reply.the-variants.{Opened, Took, Brought, Found, NoPath, Wait, Read, Refused}
+use Rattle.desk.specs.declared.Answer.{Answer}
+use Rattle.desk.specs.Machine.{labelOf}
+use Rattle.desk.specs.Reply.{answer}
+use Rattle.desk.specs.Fits.{fits}
+use Rattle.desk.specs.Opening.{openingOf}
+use Rattle.desk.specs.Path.{Reading, pathOf}
+use Rattle.desk.specs.Calls.{Event, call, replies, after}
+
+-- "a task that opening accepts"
+abbrev pub Accepted : Task → Type 0
+Accepted t = openingOf t .reply ≡ Opened
+
+-- "any sequence of calls (refused ones too), each given that task and the machine last handed back": the machine then, the replies, and the answer to one call more
+abbrev pub reached : Task → List Event → Machine
+reached t events = after (t .passages) (t .estimates) (openingOf t .machine) events
+
+abbrev pub said : Task → List Event → List Reply
+said t events = replies (t .passages) (t .estimates) (openingOf t .machine) events
+
+abbrev pub next : Task → List Event → Event → Answer
+next t events e = call (t .passages) (t .estimates) (reached t events) e
+
+-- the task's passages as a graph
+abbrev pub graph : Task → Graph
+graph t = record { edge = λ i. i < passageCount (t .passages); near = near (t .passages); far = far (t .passages); cost = cost (t .passages) }
+
+-- "A route is a chain of passages from start to goal; if start is goal the chain without passages is a route of cost 0.": a list of passage numbers, and its cost
+abbrev pub IsRoute : Task → List ℕ → Type 0
+IsRoute t way = Walk (graph t) (t .start) way (t .goal)
+
+abbrev pub routeCost : Task → List ℕ → ℕ
+routeCost t way = costOf (graph t) way
+
+-- the states along a route, start first
+abbrev pub along : Task → List ℕ → List ℕ
+along t way = t .start ∷ map (far (t .passages)) way
+
+-- how often a state is dealt in a list of replies
+abbrev pub deals : ℕ → Reply → ℕ
+deals s Opened = 0
+deals s (Took x) = cond (eqb x s) 1 0
+deals s (Brought many) = 0
+deals s (Found c) = 0
+deals s NoPath = 0
+deals s Wait = 0
+deals s (Read many) = 0
+deals s (Refused number) = 0
+
+unfoldable pub timesDealt : ℕ → List Reply → ℕ
+timesDealt s [] = 0
+timesDealt s (r ∷ rs) = deals s r + timesDealt s rs
+
+-- "after Found the path read out is a chain of the task's passages from start to goal, its costs add up to the stated cost, and 100 × cost ≤ E × the cost of every route":
+-- what path reading on the machine m replies, and leaves in a buffer that has room from the place `at` on
+pub record PathRight (t : Task) (m : Machine) (c : ℕ) : Type 0 where
+  pub way : List ℕ
+  pub route : IsRoute t way
+  pub adds : routeCost t way ≡ c
+  pub short : length (along t way) ≤ t .n
+  pub reads : (buffer : List ℕ) (at : ℕ) → length (along t way) ≤ length buffer - at
+      → pathOf m (t .passages) (t .estimates) buffer at ≡ record { given = answer m (Read (length (along t way))); buffer = overlaid at (along t way) buffer }
+  pub within : (other : List ℕ) → IsRoute t other → 100 * c ≤ t .excess * routeCost t other
+
+-- demand 3
+pub record Demand3 (t : Task) : Type 0 where
+  -- "no junction is dealt twice"
+  pub once : (events : List Event) (s : ℕ) → timesDealt s (said t events) ≤ 1
+  -- a call that replies Found, whatever calls come after it
+  pub found : (events : List Event) (e : Event) (later : List Event) (c : ℕ) → next t events e .reply ≡ Found c → PathRight t (reached t (events ++ (e ∷ later))) c
+  -- "NoPath only where no route exists"
+  pub nopath : (events : List Event) (e : Event) → next t events e .reply ≡ NoPath → (way : List ℕ) → IsRoute t way → ⊥
+
+-- and what goes with it
+pub record Kept (t : Task) : Type 0 where
+  -- 8 never comes for a machine that was reached
+  pub fitting : (events : List Event) → fits (reached t events) (t .passages) (t .estimates) ≡ true
+  -- nor does 12
+  pub moving : (events : List Event) (e : Event) → next t events e .reply ≢ Refused 12
+  -- the goal is never dealt, and the start stays at label 0
+  pub aim : (events : List Event) → timesDealt (t .goal) (said t events) ≡ 0
+  pub root : (events : List Event) → labelOf (reached t events) (t .start) ≡ 0

@@ -1,0 +1,75 @@
+-- The word, the states and the line's end are pieces one after another, and every other reply leaves the buffer as it was.
+use mathlib.Core.Path.{_≡_, refl, subst}
+use mathlib.Core.List.{List, [], _∷_}
+use Prim.Native.Nat.{ℕ}
+use types.Run.{OneOf, miss}
+use denote.Enum.Declared.{tagOf}
+use borrow.Author.Needs.{needs}
+use Rattle.desk.proofs.Reply.{the-type}
+use Rattle.desk.specs.declared.Reply.{Reply}
+use Rattle.desk.specs.declared.Reply.the-variants.{Opened, Took, Brought, Found, NoPath, Wait, Read, Refused}
+use Rattle.report.specs.Line.{readText}
+use Rattle.report.specs.Laws.{Drawn}
+use Rattle.report.specs.LineLaws.{put-three, put-none}
+use Rattle.report.proofs.line.put_read.Statement.{statement}
+use Rattle.report.proofs.line.put_read.Tie as tie
+
+-- the other seven variants print nothing
+unread : (states : List ℕ) (r : Reply) → OneOf (0 ∷ 1 ∷ 2 ∷ 3 ∷ 4 ∷ 5 ∷ 7 ∷ []) (tagOf the-type r) → readText states r ≡ []
+unread states Opened h = refl
+unread states (Took s) h = refl
+unread states (Brought many) h = refl
+unread states (Found cost) h = refl
+unread states NoPath h = refl
+unread states Wait h = refl
+unread states (Read many) h = absurd (miss (0 ∷ 1 ∷ 2 ∷ 3 ∷ 4 ∷ 5 ∷ 7 ∷ []) 6 tt h)
+unread states (Refused number) h = refl
+
+enum-known-reply : tie.Need-enum-known-reply
+enum-known-reply c = search needs
+
+slice-aggregate-put-word : tie.Need-slice-aggregate-put-word
+slice-aggregate-put-word c = search needs
+
+put-word-requires : tie.Need-put-word-requires
+put-word-requires c κs = search needs
+
+cast-put-states : tie.Need-cast-put-states
+cast-put-states c = search needs
+
+put-states-requires : tie.Need-put-states-requires
+put-states-requires c κs =
+    let r = c .before .before .before .before .before .before .before in
+    (subst Drawn (r .reply .given .1) (r .before .before .before .pre .0), search needs)
+
+put-byte-requires : tie.Need-put-byte-requires
+put-byte-requires c κs = search needs
+
+same-length : tie.Need-same-length
+same-length c = search needs
+
+returns : tie.Need-returns
+returns c =
+    let b = c .before .before in
+    let s = b .before .before .before .before in
+    let w = s .before .before .before .before in
+    rw (w .before .before .before .before .reply .given .1) (put-three _ _ _ _ _ _ _ _ _ _ _ (w .put-word .ensures) (s .put-states .ensures .0) (b .put-byte .ensures) (search needs), search needs)
+
+returns-2 : tie.Need-returns-2
+returns-2 c =
+    let s = c .before .before in
+    rw (unread (s .args .states .now) (s .args .reply) (c .match .keys2)) (put-none _ _, search needs)
+
+pub put-read-spec : {M : Type 1} → statement M
+put-read-spec =
+    tie.close
+    (tie.spec
+    enum-known-reply
+    slice-aggregate-put-word
+    put-word-requires
+    cast-put-states
+    put-states-requires
+    put-byte-requires
+    same-length
+    returns
+    returns-2)

@@ -1,0 +1,246 @@
+-- A session's text as its functions build it: what each call spends of the buffer, the text after so many events, and the report by what reading a file comes to.
+use mathlib.Core.Path.{_≡_, refl, ap, subst, subst⁻¹, _∙_}
+use mathlib.Core.Bool.{Bool, true, false, not, cond}
+use mathlib.Core.List.{List}
+use Prim.Native.Nat.{ℕ, zero, suc, _+_, _-_, _*_, _≤_, _<_}
+use native.Mathlib.Omega.{arith}
+use lib.ListN.{length, getD, replicate, take, length-append, length-take, length-drop}
+use lib.Dec.{ltb, leb, eqb}
+use borrow.Author.Tests.{eqb-true, leb-true, eq-eqb, ne-eqb, le-leb, lt-leb}
+use Rattle.laws.specs.Truth.{provided, provided-either}
+use Rattle.laws.specs.Fold.{fold, fold-more}
+use Rattle.laws.specs.Part.{overlaid}
+use Rattle.rule.specs.Task.{passageCount, near, far, cost}
+use Rattle.rule.specs.Rule.{lowers}
+use Rattle.checks.specs.Opening.{task}
+use Rattle.dealing.specs.declared.Decision.{Decision}
+use Rattle.dealing.specs.declared.Decision.the-variants.{Found as FoundAt, NoPath as NoPathLeft, Deal, Stuck, Wait as WaitOn}
+use Rattle.dealing.specs.Decision.{decision}
+use Rattle.trail.specs.Trail.{pathLength}
+use Rattle.desk.specs.declared.Machine.{Machine}
+use Rattle.desk.specs.declared.Swept.{Swept}
+use Rattle.desk.specs.declared.Reply.{Reply}
+use Rattle.desk.specs.declared.Reply.the-variants.{Opened, Took, Brought, Found, NoPath, Wait, Read as ReadOut, Refused}
+use Rattle.desk.specs.declared.Answer.{Answer}
+use Rattle.desk.specs.Machine.{heldBy, labelOf, trailOf, boardOf}
+use Rattle.desk.specs.Reply.{refusalOf}
+use Rattle.desk.specs.Fits.{fits}
+use Rattle.desk.specs.Admission.{admitted}
+use Rattle.desk.specs.Take.{act, takeStep, takeOf}
+use Rattle.desk.specs.Bring.{swept, labelled, applyPassage, sweepOf, bringStep, bringOf}
+use Rattle.desk.specs.Opening.{openingOf}
+use Rattle.desk.specs.Path.{Reading, pathOf}
+use Rattle.desk.specs.Calls.{Event, take as takes, bring as brings, call}
+use Rattle.taskfile.specs.declared.Contents.{Contents}
+use Rattle.taskfile.specs.declared.Outcome.{Outcome}
+use Rattle.taskfile.specs.declared.Outcome.the-variants.{Read, Fault}
+use Rattle.taskfile.specs.Scan.{scanned}
+use Rattle.taskfile.specs.Contents.{Reading as FileReading, roomyFor, readOf}
+use Rattle.taskfile.specs.Laws.{roomy}
+use Rattle.report.specs.declared.Told.{Told}
+use Rattle.report.specs.Line.{word-file, word-opening, line1, line2, lineOf, afterReply, spoken}
+use Rattle.report.specs.Text.{eventOf, workerOf, speak, session, taskText, outcomeText, printed, room, reportLength, reportBuffer}
+use Rattle.report.specs.Laws.{Put, Drawn, reserve, spare, Said}
+use Rattle.report.specs.LineLaws.{put-next, put-none, put-length}
+
+-- what a call prints after its line was kept back before: Found comes once
+abbrev Spends : Machine → Answer → Type 0
+Spends m a = spare (a .machine) + reserve (a .reply) ≤ spare m
+
+-- going over the passages keeps the phase
+module _ (passages : List ℕ) (state label : ℕ) where
+  apply-phase : (i : ℕ) (w : Swept) → applyPassage passages state label i w .machine .phase ≡ w .machine .phase
+  unfolding applyPassage
+  apply-phase i w = go (eqb (near passages i) state) (lowers (getD (w .machine .mark) (far passages i) 0) (labelOf (w .machine) (far passages i)) (label + cost passages i))
+    where
+      go : (t u : Bool) → cond t (cond u (swept (labelled (w .machine) (far passages i) (label + cost passages i) i) (w .many + 1)) w) w .machine .phase ≡ w .machine .phase
+      go true true = refl
+      go true false = refl
+      go false u = refl
+
+  fold-phase : (w : Swept) (n : ℕ) → fold (applyPassage passages state label) w n .machine .phase ≡ w .machine .phase
+  unfolding fold
+  fold-phase w zero = refl
+  fold-phase w (suc n) = apply-phase n (fold (applyPassage passages state label) w n) ∙ fold-phase w n
+
+sweep-phase : (m : Machine) (passages : List ℕ) (s : ℕ) → sweepOf m passages s .machine .phase ≡ m .phase
+unfolding sweepOf
+sweep-phase m passages s = fold-phase passages s (labelOf m s) (swept m 0) (passageCount passages)
+
+act-spends : (m : Machine) (worker : ℕ) (d : Decision) → m .phase ≡ 0 → Spends m (act m worker d)
+act-spends m worker (FoundAt cost) e = rw (eq-eqb (m .phase) 0 e) (omega arith)
+act-spends m worker NoPathLeft e = omega arith
+act-spends m worker (Deal s) e = omega arith
+act-spends m worker Stuck e = omega arith
+act-spends m worker WaitOn e = omega arith
+
+bring-spends : (m : Machine) (passages : List ℕ) (worker : ℕ) → Spends m (bringStep m passages worker)
+unfolding bringStep
+bring-spends m passages worker = rw (sweep-phase m passages (heldBy m worker)) (omega arith)
+
+admitted-spends : (m : Machine) (passages estimates : List ℕ) (worker : ℕ) (ready : Bool) (c : Answer) → (m .phase ≡ 0 → Spends m c) → Spends m (admitted m passages estimates worker ready c)
+unfolding admitted
+admitted-spends m passages estimates worker ready c f =
+    provided-either (Spends m) (fits m passages estimates) _ _ (omega arith)
+    (λ _. provided-either (Spends m) (ltb worker (m .k)) _ _ (omega arith)
+    (λ _. provided-either (Spends m) (eqb (m .phase) 0) _ _ (omega arith)
+    (λ e. provided-either (Spends m) ready _ _ (omega arith)
+    (λ _. f (eqb-true (m .phase) 0 e)))))
+
+pub call-spends : (passages estimates : List ℕ) (m : Machine) (e : Event) → spare (call passages estimates m e .machine) + reserve (call passages estimates m e .reply) ≤ spare m
+unfolding takeOf takeStep bringOf
+call-spends passages estimates m (takes worker) = admitted-spends m passages estimates worker _ _ (act-spends m worker (decision (m .goal) (m .pull) (boardOf m estimates)))
+call-spends passages estimates m (brings worker) = admitted-spends m passages estimates worker _ _ (λ _. bring-spends m passages worker)
+
+-- a path that is read into 256 places has at most so many states
+pub path-drawn : (m : Machine) (passages estimates : List ℕ) → Drawn (pathOf m passages estimates (replicate 256 0) 0 .given .reply)
+unfolding pathOf
+path-drawn m passages estimates =
+    provided-either P (fits m passages estimates) _ _ tt
+    (λ _. provided-either P (eqb (m .phase) 1) _ _ tt
+    (λ _. provided-either P (not (eqb (pathLength (trailOf m passages)) 0)) _ _ tt
+    (λ _. provided-either P (leb (pathLength (trailOf m passages)) (length {A = ℕ} (replicate 256 0) - 0)) _ _ tt
+    (λ e. omega (arith, leb-true (pathLength (trailOf m passages)) (length {A = ℕ} (replicate 256 0) - 0) e)))))
+  where
+    P : Reading → Type 0
+    P r = Drawn (r .given .reply)
+
+-- nothing is printed after a reply that isn't Found
+pub after-none : (reply : Reply) (r : Reading) (at : ℕ) (l : List ℕ) → ((cost : ℕ) → reply ≡ Found cost → ⊥) → Put at (afterReply reply r) l l at × (at ≤ at + reserve reply)
+after-none Opened r at l n = (put-none at l, omega arith)
+after-none (Took s) r at l n = (put-none at l, omega arith)
+after-none (Brought many) r at l n = (put-none at l, omega arith)
+after-none (Found cost) r at l n = absurd (n cost refl)
+after-none NoPath r at l n = (put-none at l, omega arith)
+after-none Wait r at l n = (put-none at l, omega arith)
+after-none (ReadOut many) r at l n = (put-none at l, omega arith)
+after-none (Refused number) r at l n = (put-none at l, omega arith)
+
+-- a call's answer: the places that it spends, and its two lines in a row
+module _ (m : Machine) (passages estimates : List ℕ) (event : ℕ) (a : Answer) (e : a ≡ call passages estimates m (eventOf event)) where
+  pub answer-spends : spare (a .machine) + reserve (a .reply) ≤ spare m
+  answer-spends = rw e (call-spends passages estimates m (eventOf event))
+
+  pub said : (at p q : ℕ) (l₀ l₁ l₂ : List ℕ) → at + 50 + spare m ≤ length l₀
+      → Put at (lineOf (workerOf event) (a .reply)) l₀ l₁ p × (p ≤ at + 50)
+      → Put p (afterReply (a .reply) (pathOf (a .machine) passages estimates (replicate 256 0) 0)) l₁ l₂ q × (q ≤ p + reserve (a .reply))
+      → Said m passages estimates event at l₀ l₂ (record { machine = a .machine; at = q })
+  unfolding spoken
+  said at p q l₀ l₁ l₂ h x y = record {
+    machine = ap (λ (b : Answer). b .machine) e;
+    text = rw (← e) (put-next at p q _ _ l₀ l₁ l₂ (x .0) (y .0) (omega (arith, x .0 .next, x .1)));
+    within = omega (arith, answer-spends, x .1, y .1);
+  }
+
+-- the text of the events so far, and what is left for the others
+pub record Played (passages estimates : List ℕ) (m₀ : Machine) (events l₀ l : List ℕ) (m : Machine) (at i : ℕ) : Type 0 where
+  pub machine : m ≡ session passages estimates m₀ events i .machine
+  pub text : Put 0 (session passages estimates m₀ events i .text) l₀ l at
+  pub left : at + 50 * (length events - i) + spare m ≤ length l₀
+  pub long : length l ≡ length l₀
+
+spare-max : (m : Machine) → spare m ≤ 8192
+spare-max m = go (eqb (m .phase) 0)
+  where
+    go : (t : Bool) → cond t 8192 0 ≤ 8192
+    go true = omega arith
+    go false = omega arith
+
+module _ (passages estimates : List ℕ) (m₀ : Machine) (events l₀ : List ℕ) where
+  pub played-zero : 50 * length events + 8192 ≤ length l₀ → Played passages estimates m₀ events l₀ l₀ m₀ 0 0
+  unfolding session fold
+  played-zero h = record { machine = refl; text = put-none 0 l₀; left = omega (arith, spare-max m₀); long = refl }
+
+  session-more : (i : ℕ) → session passages estimates m₀ events (i + 1) ≡ speak passages estimates events i (session passages estimates m₀ events i)
+  unfolding session
+  session-more i = fold-more (speak passages estimates events) _ i
+
+  pub played-more : (l l′ : List ℕ) (m : Machine) (at i : ℕ) (r : Told) → Played passages estimates m₀ events l₀ l m at i → i < length events
+      → Said m passages estimates (getD events i 0) at l l′ r → Played passages estimates m₀ events l₀ l′ (r .machine) (r .at) (i + 1)
+  unfolding speak
+  played-more l l′ m at i r w h s =
+      let more : r .at + 50 * (length events - (i + 1)) + spare (r .machine) ≤ length l₀ = omega (arith, w .left, s .within) in
+      record {
+        machine = rw (session-more i, ← (w .machine)) (s .machine);
+        text = rw (session-more i, ← (w .machine)) (put-next 0 at (r .at) _ _ l₀ l l′ (w .text) (s .text) (omega (arith, w .text .next)));
+        left = more;
+        long = put-length at (r .at) _ l l′ (s .text) (omega (arith, s .text .next, w .long)) ∙ w .long;
+      }
+
+  pub played-end : (l : List ℕ) (m : Machine) (at i : ℕ) → Played passages estimates m₀ events l₀ l m at i → i ≤ length events → length events ≤ i → Put 0 (session passages estimates m₀ events (length events) .text) l₀ l at
+  played-end l m at i w a b = let q : i ≡ length events = omega arith in rw q at (w .text)
+
+-- a task's text: its session where opening accepts it, else the refusal alone
+module _ (c : Contents) (passages estimates events : List ℕ) (a : Answer) (e : a ≡ openingOf (task (c .n) (c .k) (c .start) (c .goal) (c .pull) (c .excess) passages estimates)) (number : ℕ) (f : number ≡ refusalOf (a .reply)) (l₀ l : List ℕ) (r : ℕ) where
+  pub put-refused : (number ≡ 0 → ⊥) → Put 0 (line1 word-opening number) l₀ l r → Put 0 (taskText c passages estimates events) l₀ l r
+  unfolding taskText
+  put-refused n p = rw (← e, ← f, ne-eqb number 0 n) p
+
+  pub put-played : number ≡ 0 → Put 0 (session passages estimates (a .machine) events (length events) .text) l₀ l r → Put 0 (taskText c passages estimates events) l₀ l r
+  unfolding taskText
+  put-played z p = rw (← e, ← f, eq-eqb number 0 z) p
+
+-- what was read of a file fits the slices that it was read into
+pub record Counts (c : Contents) (passages estimates calls : ℕ) : Type 0 where
+  pub passages-in : 3 * c .passages ≤ passages
+  pub estimates-in : c .n * c .n ≤ estimates
+  pub calls-in : c .calls ≤ calls
+
+abbrev Bounded : ℕ → ℕ → ℕ → Outcome → Type 0
+Bounded passages estimates calls (Read c) = Counts c passages estimates calls
+Bounded passages estimates calls (Fault number offset) = Unit {0}
+
+pub read-bounds : (file passages estimates calls : List ℕ) (c : Contents) → Read c ≡ readOf file passages estimates calls .outcome → Counts c (length passages) (length estimates) (length calls)
+unfolding readOf
+read-bounds file passages estimates calls c e = subst⁻¹ (Bounded (length passages) (length estimates) (length calls)) e all
+  where
+    P : FileReading → Type 0
+    P r = Bounded (length passages) (length estimates) (length calls) (r .outcome)
+
+    all : P (readOf file passages estimates calls)
+    all =
+        provided-either P (leb (length file) 65536) _ _ tt
+        (λ _. provided-either P (eqb (scanned file .status) 1) _ _ tt
+        (λ _. provided-either P (roomyFor (scanned file) (length passages) (length estimates) (length calls)) _ _ tt
+        (λ r.
+        let f = roomy (scanned file) (length passages) (length estimates) (length calls) r in
+        record { passages-in = f .passages-in; estimates-in = f .estimates-in; calls-in = f .calls-in })))
+
+-- a file as it is read for a report
+abbrev pub reading : List ℕ → FileReading
+reading file = readOf file (replicate 1536 0) (replicate 4096 0) (replicate 11008 0)
+
+pub reading-bounds : (file : List ℕ) (c : Contents) → Read c ≡ reading file .outcome → Counts c 1536 4096 11008
+reading-bounds file c e = read-bounds file (replicate 1536 0) (replicate 4096 0) (replicate 11008 0) c e
+
+printed-as : (file : List ℕ) (o : Outcome) → o ≡ reading file .outcome → outcomeText (reading file) o ≡ printed file
+unfolding printed
+printed-as file o e = ap (outcomeText (reading file)) e
+
+-- a report: nothing where the buffer is too short, else the printed text at its front
+module _ (file out : List ℕ) where
+  pub report-short : length out < room → (0 ≡ reportLength file out) × (out ≡ reportBuffer file out)
+  unfolding reportLength reportBuffer
+  report-short h = rw (lt-leb room (length out) h) (refl, refl)
+
+  report-put : room ≤ length out → (l : List ℕ) (r : ℕ) → Put 0 (printed file) out l r → (r ≡ reportLength file out) × (l ≡ reportBuffer file out)
+  unfolding reportLength reportBuffer
+  report-put h l r p = rw (le-leb room (length out) h) (omega (arith, p .next), p .done)
+
+  module _ (h : room ≤ length out) (l : List ℕ) (r : ℕ) where
+    pub report-fault : (number offset : ℕ) → Fault number offset ≡ reading file .outcome → Put 0 (line2 word-file number offset) out l r → (r ≡ reportLength file out) × (l ≡ reportBuffer file out)
+    report-fault number offset e p = report-put h l r (subst (λ (xs : List ℕ). Put 0 xs out l r) (printed-as file (Fault number offset) e) p)
+
+    pub report-task : (c : Contents) (passages estimates calls : List ℕ) → Read c ≡ reading file .outcome → passages ≡ reading file .passages → estimates ≡ reading file .estimates → calls ≡ reading file .calls
+        → Put 0 (taskText c (take (3 * c .passages) passages) (take (c .n * c .n) estimates) (take (c .calls) calls)) out l r → (r ≡ reportLength file out) × (l ≡ reportBuffer file out)
+    report-task c passages estimates calls e x y z p =
+        report-put h l r (subst (λ (xs : List ℕ). Put 0 xs out l r) (rw (x, y, z) (printed-as file (Read c) e)) p)
+
+-- what is written fits the buffer, since the buffer keeps its length
+pub report-within : (file out : List ℕ) → length (reportBuffer file out) ≡ length out → reportLength file out ≤ length out
+unfolding reportBuffer reportLength
+report-within file out = go (leb room (length out))
+  where
+    go : (b : Bool) → length (provided b out (overlaid 0 (printed file) out)) ≡ length out → provided b 0 (length (printed file)) ≤ length out
+    go false e = omega arith
+    go true e = omega (arith, simp (length-append, length-take, length-drop) at e)

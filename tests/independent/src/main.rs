@@ -1,0 +1,128 @@
+//! `compare`: random comparison of the proved desk with the independent one.
+//!
+//! Options: `--cases N` (100000), `--seed S` (1), `--seconds LIMIT`,
+//! `--case I` (replays one case of the seed, step by step), `--self` (compares
+//! nothing: only the runs of document 01 and demand 3 on the independent desk),
+//! `--progress` (names each case before it is run, should the library crash).
+//! The last line is `compared N cases, D differences`; status 1 where D > 0.
+
+use independent::compare::{run_case, Desks};
+use independent::rows::{Independent, RowDesk};
+use independent::runs;
+use independent::tally::Tally;
+use std::process::ExitCode;
+use std::time::{Duration, Instant};
+
+struct Options {
+    cases: u64,
+    seed: u64,
+    limit: Duration,
+    only_case: Option<u64>,
+    only_self: bool,
+    progress: bool,
+}
+
+fn main() -> ExitCode {
+    let options = match read_options(std::env::args().skip(1)) {
+        Ok(options) => options,
+        Err(fault) => {
+            eprintln!("{fault}");
+            return ExitCode::from(2);
+        }
+    };
+    let library = match (options.only_self, independent::library()) {
+        (true, _) => None,
+        (false, Some(library)) => Some(library),
+        (false, None) => {
+            eprintln!("built without the library: set DESK_LIB_DIR and build, or use --self");
+            return ExitCode::from(2);
+        }
+    };
+    let mut desks = Desks {
+        library,
+        verbose: options.only_case.is_some(),
+        tally: Tally::default(),
+    };
+    let (compared, differences) = match options.only_case {
+        Some(case) => (1, report_case(&mut desks, options.seed, case)),
+        None => run_all(&mut desks, &options),
+    };
+    println!("compared {compared} cases, {differences} differences");
+    ExitCode::from(u8::from(differences > 0))
+}
+
+fn read_options(mut words: impl Iterator<Item = String>) -> Result<Options, String> {
+    let mut options = Options {
+        cases: 100_000,
+        seed: 1,
+        limit: Duration::MAX,
+        only_case: None,
+        only_self: false,
+        progress: false,
+    };
+    while let Some(word) = words.next() {
+        let mut number = || {
+            let text = words.next().ok_or(format!("{word} asks for a number"))?;
+            text.parse::<u64>()
+                .map_err(|_| format!("{word}: {text} is no number"))
+        };
+        match word.as_str() {
+            "--cases" => options.cases = number()?,
+            "--seed" => options.seed = number()?,
+            "--seconds" => options.limit = Duration::from_secs(number()?),
+            "--case" => options.only_case = Some(number()?),
+            "--self" => options.only_self = true,
+            "--progress" => options.progress = true,
+            _ => return Err(format!("unknown option {word}")),
+        }
+    }
+    Ok(options)
+}
+
+/// Runs document 01's runs and the random cases: how many cases and differences.
+fn run_all(desks: &mut Desks, options: &Options) -> (u64, u64) {
+    let mut differences = report_runs("independent", &Independent);
+    if let Some(library) = desks.library {
+        differences += report_runs("library", library);
+    }
+    let begin = Instant::now();
+    let mut compared = 0;
+    while compared < options.cases && begin.elapsed() < options.limit {
+        if options.progress {
+            eprintln!("--seed {} --case {compared}", options.seed);
+        }
+        differences += report_case(desks, options.seed, compared);
+        compared += 1;
+    }
+    let seconds = begin.elapsed().as_secs_f64();
+    let rate = compared as f64 / seconds.max(1e-9);
+    println!("{}", desks.tally);
+    println!(
+        "seed {}: {seconds:.1} s, {rate:.0} cases per second",
+        options.seed
+    );
+    (compared, differences)
+}
+
+fn report_runs(name: &str, desk: &dyn RowDesk) -> u64 {
+    let failures = runs::failures(desk);
+    for failure in &failures {
+        println!("difference: {name}: {failure}");
+    }
+    let all = runs::RUNS.len();
+    println!(
+        "{name}: {} of {all} runs of document 01 pass",
+        all - failures.len()
+    );
+    failures.len() as u64
+}
+
+fn report_case(desks: &mut Desks, seed: u64, case: u64) -> u64 {
+    match run_case(desks, seed, case) {
+        Ok(()) => 0,
+        Err(fault) => {
+            println!("difference: --seed {seed} --case {case}: {fault}");
+            1
+        }
+    }
+}

@@ -1,0 +1,71 @@
+//! Counts of what the cases met, so that one sees how much they cover: each
+//! call's replies, refusals by number, and the first words of printed texts.
+
+use crate::desk::Reply;
+use std::collections::BTreeMap;
+use std::fmt;
+
+#[derive(Default)]
+pub struct Tally {
+    counts: BTreeMap<(&'static str, &'static str, u32), u64>,
+}
+
+impl Tally {
+    pub fn add_reply(&mut self, call: &'static str, reply: Reply) {
+        let (word, number) = match reply {
+            Reply::Opened => ("opened", 0),
+            Reply::Took(_) => ("took", 0),
+            Reply::Brought(_) => ("brought", 0),
+            Reply::Found(_) => ("found", 0),
+            Reply::NoPath => ("nopath", 0),
+            Reply::Wait => ("wait", 0),
+            Reply::Read(_) => ("read", 0),
+            Reply::Refused(number) => ("refused", number),
+        };
+        self.add(call, word, number);
+    }
+
+    /// Counts a printed text: a file fault, a refused opening, or a run.
+    pub fn add_text(&mut self, text: &str) {
+        let mut words = text.split_ascii_whitespace();
+        let kind = match words.next() {
+            None => "nothing",
+            Some("file") => "file",
+            Some("opening") => "opening",
+            Some(_) => "run",
+        };
+        let number = match kind {
+            "file" | "opening" => words.next().and_then(|word| word.parse().ok()),
+            _ => None,
+        };
+        self.add("print", kind, number.unwrap_or(0));
+    }
+
+    /// How often a call gave this.
+    pub fn count(&self, call: &'static str, word: &'static str, number: u32) -> u64 {
+        let count = self.counts.get(&(call, word, number));
+        count.copied().unwrap_or(0)
+    }
+
+    fn add(&mut self, call: &'static str, word: &'static str, number: u32) {
+        *self.counts.entry((call, word, number)).or_default() += 1;
+    }
+}
+
+impl fmt::Display for Tally {
+    fn fmt(&self, f: &mut fmt::Formatter) -> fmt::Result {
+        let mut line = "";
+        for (&(call, word, number), count) in &self.counts {
+            if call != line {
+                let gap = if line.is_empty() { "" } else { "\n" };
+                write!(f, "{gap}{call}:")?;
+                line = call;
+            }
+            match number {
+                0 => write!(f, " {word} {count}")?,
+                _ => write!(f, " {word}-{number} {count}")?,
+            }
+        }
+        Ok(())
+    }
+}

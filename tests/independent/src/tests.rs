@@ -1,0 +1,586 @@
+//! Self-tests of the independent desk, its file reader, the maker and the
+//! demand 3 check; they need no library.
+
+use crate::compare::{run_case, Desks};
+use crate::demand::{shortest, Watch};
+use crate::desk::{
+    Graph, Machine, Reply, Task, FINISHED, FOUND, MAX_LABEL, MAX_PASSAGES, NONE, OPEN, OUT,
+};
+use crate::maker::{self, Rng};
+use crate::rows::{self, Independent, RowDesk, ROW};
+use crate::runs::{self, task_a};
+use crate::tally::Tally;
+use crate::taskfile::{self, Action, Fault, MAX_FILE};
+
+type Change = fn(&mut Machine);
+
+fn opened(task: &Task) -> Machine {
+    Machine::open(task.head, task.graph()).expect("an accepted task")
+}
+
+fn opening(task: &Task) -> Option<u32> {
+    Machine::open(task.head, task.graph()).err()
+}
+
+/// Task A after a change.
+fn changed(change: impl FnOnce(&mut Task)) -> Task {
+    let mut task = task_a();
+    change(&mut task);
+    task
+}
+
+#[test]
+fn runs_of_the_document() {
+    assert_eq!(runs::failures(&Independent), Vec::<String>::new());
+}
+
+// ---- Opening ----
+
+#[test]
+fn opening_refuses_by_number() {
+    let long = vec![0; 3 * MAX_PASSAGES];
+    let refused: Vec<(Option<u32>, Task)> = vec![
+        (Some(1), changed(|t| t.head.n = 0)),
+        (Some(1), changed(|t| t.head.n = 257)),
+        (Some(1), changed(|t| t.head.n = usize::MAX)),
+        (Some(1), changed(|t| t.head.k = 0)),
+        (Some(1), changed(|t| t.head.k = 33)),
+        (None, changed(|t| t.head.k = 32)),
+        (Some(1), changed(|t| t.passages.push(0))),
+        (None, changed(|t| t.passages = long.clone())),
+        (
+            Some(1),
+            changed(|t| t.passages = [&long[..], &[0; 3]].concat()),
+        ),
+        (Some(1), changed(|t| t.estimates.push(0))),
+        (Some(2), changed(|t| t.head.start = 5)),
+        (Some(2), changed(|t| t.head.goal = 5)),
+        (Some(3), changed(|t| t.head.excess = 99)),
+        (Some(3), changed(|t| t.head.excess = 10_001)),
+        (None, changed(|t| t.head.excess = 10_000)),
+        (Some(3), changed(|t| t.head.pull = 101)),
+        (Some(4), changed(|t| t.passages[0] = 5)),
+        (Some(4), changed(|t| t.passages[1] = 5)),
+        (Some(4), changed(|t| t.passages[2] = 1_000_001)),
+        (Some(5), changed(|t| t.estimates[0] = 1)),
+        (Some(5), changed(|t| t.estimates[24] = 1)),
+        (Some(5), changed(|t| t.estimates[1] = MAX_LABEL + 1)),
+        (Some(6), changed(|t| t.estimates[1] = 3)),
+        (Some(7), changed(|t| t.estimates[20] = 1)),
+    ];
+    for (number, (wanted, task)) in refused.iter().enumerate() {
+        assert_eq!(opening(task), *wanted, "line {number}");
+    }
+}
+
+#[test]
+fn opening_gives_the_first_refusal() {
+    let mut task = task_a();
+    task.estimates[5] = 9;
+    assert_eq!(opening(&task), Some(7));
+    task.estimates[1] = 3;
+    assert_eq!(opening(&task), Some(6));
+    task.estimates[0] = 1;
+    assert_eq!(opening(&task), Some(5));
+    task.passages[0] = 5;
+    assert_eq!(opening(&task), Some(4));
+    task.head.excess = 1;
+    assert_eq!(opening(&task), Some(3));
+    task.head.goal = 5;
+    assert_eq!(opening(&task), Some(2));
+    task.head.k = 0;
+    assert_eq!(opening(&task), Some(1));
+}
+
+#[test]
+fn highest_estimates_pass() {
+    let mut task = changed(|t| t.passages.clear());
+    task.estimates = (0..25)
+        .map(|i| if i % 6 == 0 { 0 } else { MAX_LABEL })
+        .collect();
+    assert_eq!(opening(&task), None);
+}
+
+#[test]
+fn opened_machine() {
+    let machine = opened(&task_a());
+    assert_eq!(machine.marks[0], OPEN);
+    assert!(machine.marks[1..].iter().all(|&mark| mark == 0));
+    assert!(machine.labels.iter().all(|&label| label == 0));
+    assert!(machine
+        .vias
+        .iter()
+        .chain(&machine.held)
+        .all(|&number| number == NONE));
+    assert_eq!(machine.phase, 0);
+}
+
+// ---- Calls ----
+
+/// What Take answers to task A's opened machine after a change.
+fn take_after(change: impl FnOnce(&mut Machine)) -> Reply {
+    let task = task_a();
+    let mut machine = opened(&task);
+    change(&mut machine);
+    let before = machine.clone();
+    let reply = machine.take(task.graph(), 0);
+    if matches!(reply, Reply::Refused(_) | Reply::Wait) {
+        assert_eq!(machine, before);
+    }
+    reply
+}
+
+#[test]
+fn machines_that_do_not_fit() {
+    let changes: &[Change] = &[
+        |m| m.head.n = 0,
+        |m| m.head.n = 6,
+        |m| m.head.k = 33,
+        |m| m.head.goal = 5,
+        |m| m.head.pull = 101,
+        |m| m.phase = 3,
+        |m| m.marks[4] = 4,
+        |m| m.labels[4] = MAX_LABEL + 1,
+        |m| m.held[1] = 0,
+        |m| m.held[1] = 5,
+        |m| m.held[1] = 65_534,
+        |m| m.marks[1] = OUT,
+        |m| {
+            m.marks[1] = OUT;
+            m.held[2] = 1;
+        },
+        |m| {
+            m.marks[1] = OUT;
+            m.held[..2].fill(1);
+        },
+        |m| {
+            m.marks[1] = FINISHED;
+            m.held[1] = 1;
+        },
+    ];
+    for (number, change) in changes.iter().enumerate() {
+        assert_eq!(take_after(change), Reply::Refused(8), "line {number}");
+    }
+}
+
+#[test]
+fn what_fitting_does_not_look_at() {
+    let changes: &[Change] = &[
+        |m| m.marks[5] = 255,
+        |m| m.labels[5] = u32::MAX,
+        |m| m.vias[0] = 6,
+        |m| m.held[2] = 0,
+        |m| m.labels[4] = MAX_LABEL,
+    ];
+    for (number, change) in changes.iter().enumerate() {
+        assert_eq!(take_after(change), Reply::Took(0), "line {number}");
+    }
+}
+
+#[test]
+fn refusals_of_calls_come_in_order() {
+    let task = task_a();
+    let mut machine = opened(&task);
+    machine.take(task.graph(), 0);
+    assert_eq!(machine.take(task.graph(), 0), Reply::Refused(11));
+    machine.phase = FOUND;
+    assert_eq!(machine.take(task.graph(), 0), Reply::Refused(10));
+    assert_eq!(machine.bring(task.graph(), 1), Reply::Refused(10));
+    assert_eq!(machine.bring(task.graph(), 2), Reply::Refused(9));
+    machine.held[0] = NONE;
+    assert_eq!(machine.bring(task.graph(), 2), Reply::Refused(8));
+}
+
+#[test]
+fn no_path_only_when_nothing_is_out() {
+    let mut task = task_a();
+    task.passages.clear();
+    let mut machine = opened(&task);
+    assert_eq!(machine.take(task.graph(), 0), Reply::Took(0));
+    assert_eq!(machine.take(task.graph(), 1), Reply::Wait);
+    assert_eq!(machine.bring(task.graph(), 0), Reply::Brought(0));
+    assert_eq!(machine.take(task.graph(), 1), Reply::NoPath);
+}
+
+#[test]
+fn parallel_passages_lower_a_label_twice() {
+    let task = changed(|t| t.passages = vec![0, 1, 9, 0, 0, 0, 0, 1, 9, 0, 1, 4]);
+    let mut machine = opened(&task);
+    machine.take(task.graph(), 0);
+    assert_eq!(machine.bring(task.graph(), 0), Reply::Brought(2));
+    assert_eq!((machine.labels[1], machine.vias[1]), (4, 3));
+}
+
+/// Take as document 01 words it, without any shortcut.
+fn literal_take(machine: &Machine, graph: Graph) -> Reply {
+    let n = machine.head.n;
+    let live = |t: usize| machine.marks[t] == OPEN || machine.marks[t] == OUT;
+    let h = |a: usize, b: usize| i128::from(graph.estimates[a * n + b]);
+    let label = |s: usize| i128::from(machine.labels[s]);
+    let independent = |s: usize, t: usize| {
+        100 * (label(s) - label(t)) <= i128::from(machine.head.excess) * h(t, s)
+    };
+    let safe = |s: usize| (0..n).all(|t| t == s || !live(t) || independent(s, t));
+    let open = |s: usize| machine.marks[s] == OPEN;
+    let goal = machine.head.goal;
+    let key = |s: usize| 100 * label(s) + i128::from(machine.head.pull) * h(s, goal);
+    if open(goal) && safe(goal) {
+        return Reply::Found(machine.labels[goal]);
+    }
+    if !(0..n).any(live) {
+        return Reply::NoPath;
+    }
+    let candidates = (0..n).filter(|&s| open(s) && safe(s));
+    match candidates.min_by_key(|&s| (key(s), s)) {
+        Some(state) => Reply::Took(state as u32),
+        None if (0..n).all(|s| machine.marks[s] != OUT) => Reply::Refused(12),
+        None => Reply::Wait,
+    }
+}
+
+#[test]
+fn take_is_the_literal_one() {
+    let mut compared = 0;
+    for case in 0..5000 {
+        let (task, row) = maker::made_up(&mut Rng::new(11, case));
+        let Some(mut machine) = rows::decode(&row) else {
+            continue;
+        };
+        let idle = machine.held.iter().position(|&held| held == NONE);
+        let (Some(worker), true) = (idle, machine.fits(task.graph())) else {
+            continue;
+        };
+        if worker < machine.head.k && machine.phase == 0 {
+            let wanted = literal_take(&machine, task.graph());
+            assert_eq!(machine.take(task.graph(), worker), wanted, "case {case}");
+            compared += 1;
+        }
+    }
+    assert!(compared > 500, "only {compared} compared");
+}
+
+// ---- Path reading ----
+
+/// Task A's machine after run A1.
+fn found_machine() -> Machine {
+    let mut machine = opened(&task_a());
+    machine.phase = FOUND;
+    machine.marks[..5].copy_from_slice(&[3, 3, 3, 3, 1]);
+    machine.labels[..5].copy_from_slice(&[0, 2, 3, 5, 6]);
+    machine.vias[1..5].copy_from_slice(&[0, 2, 3, 5]);
+    machine
+}
+
+fn read_after(change: impl FnOnce(&mut Machine)) -> Reply {
+    let mut machine = found_machine();
+    change(&mut machine);
+    machine.path(task_a().graph(), &mut [0; 5], 0)
+}
+
+#[test]
+fn path_refusals() {
+    let wanted: &[(u32, Change)] = &[
+        (8, |m| m.phase = 3),
+        (13, |m| m.phase = 0),
+        (13, |m| m.phase = 2),
+        (14, |m| m.vias[4] = NONE),
+        (14, |m| m.vias[4] = 6),
+        (14, |m| m.vias[4] = 3),
+        (14, |m| m.labels[2] = 4),
+        (14, |m| m.labels[0] = 1),
+        (14, |m| m.labels[..5].copy_from_slice(&[1, 3, 4, 6, 7])),
+    ];
+    for (line, &(number, change)) in wanted.iter().enumerate() {
+        assert_eq!(read_after(change), Reply::Refused(number), "line {line}");
+    }
+}
+
+#[test]
+fn path_reading_looks_at_no_marks_nor_at_the_start_s_passage() {
+    assert_eq!(read_after(|m| m.marks[..5].fill(0)), Reply::Read(5));
+    assert_eq!(read_after(|m| m.vias[0] = 1), Reply::Read(5));
+    assert_eq!(read_after(|m| m.head.goal = 0), Reply::Read(1));
+}
+
+#[test]
+fn a_ring_of_free_passages_is_14() {
+    let task = changed(|t| t.passages = vec![3, 4, 0, 4, 3, 0]);
+    let mut machine = opened(&task);
+    machine.phase = FOUND;
+    machine.vias[3..5].copy_from_slice(&[1, 0]);
+    assert_eq!(
+        machine.path(task.graph(), &mut [0; 9], 0),
+        Reply::Refused(14)
+    );
+}
+
+#[test]
+fn buffers_too_short() {
+    let machine = found_machine();
+    for (len, at) in [
+        (0, 0),
+        (4, 0),
+        (5, 1),
+        (5, 5),
+        (9, 5),
+        (9, 10),
+        (9, usize::MAX),
+    ] {
+        let mut buffer = vec![7; len];
+        let reply = machine.path(task_a().graph(), &mut buffer, at);
+        assert_eq!(reply, Reply::Refused(15), "{len} places from {at}");
+        assert!(buffer.iter().all(|&place| place == 7));
+    }
+}
+
+// ---- Rows ----
+
+#[test]
+fn rows_of_wrong_numbers_or_length() {
+    let task = task_a();
+    let mut good = vec![0; ROW];
+    rows::encode(&opened(&task), &mut good);
+    let refused = rows::code(Reply::Refused(8));
+    for (place, number) in [
+        (4, 65_536),
+        (6, 256),
+        (262, 256),
+        (519, 65_536),
+        (806, 65_536),
+    ] {
+        let mut row = good.clone();
+        row[place] = number;
+        let before = row.clone();
+        assert_eq!(
+            Independent.take(&mut row, task.graph(), 0),
+            refused,
+            "place {place}"
+        );
+        assert_eq!(row, before);
+    }
+    for len in [0, 806, 808] {
+        let mut row = vec![9; len];
+        assert_eq!(Independent.open(&task, &mut row), refused);
+        assert_eq!(Independent.bring(&mut row, task.graph(), 0), refused);
+        assert_eq!(row, vec![9; len]);
+    }
+}
+
+#[test]
+fn codes_and_replies_go_both_ways() {
+    let replies = [
+        Reply::Opened,
+        Reply::Took(3),
+        Reply::Brought(0),
+        Reply::Found(MAX_LABEL),
+        Reply::NoPath,
+        Reply::Wait,
+        Reply::Read(9),
+        Reply::Refused(12),
+    ];
+    for (case, reply) in replies.into_iter().enumerate() {
+        assert_eq!(rows::code(reply) >> 32, case as u64);
+        assert_eq!(rows::reply(rows::code(reply)), Some(reply));
+    }
+}
+
+// ---- Task files ----
+
+const HEAD: [u8; 16] = [12, 0, 1, 0, 1, 0, 1, 0, 0, 0, 0, 0, 100, 0, 100, 0];
+const PASSAGE: [u8; 12] = [8, 0, 2, 0, 0, 0, 0, 0, 1, 0, 0, 0];
+const ROW_0: [u8; 10] = [6, 0, 3, 0, 0, 0, 0, 0, 0, 0];
+const TAKE_0: [u8; 6] = [2, 0, 4, 0, 0, 0];
+
+fn fault(parts: &[&[u8]]) -> Option<(u32, usize)> {
+    let fault = taskfile::read(&parts.concat()).err();
+    fault.map(|Fault { number, offset }| (number, offset))
+}
+
+#[test]
+fn file_faults() {
+    let mut no_states = HEAD;
+    no_states[4] = 0;
+    let mut many_states = HEAD;
+    many_states[4] = 65;
+    let passages = PASSAGE.repeat(512);
+    assert_eq!(fault(&[&HEAD, &PASSAGE, &ROW_0, &TAKE_0]), None);
+    assert_eq!(fault(&[&HEAD, &ROW_0]), None);
+    assert_eq!(fault(&[]), Some((21, 0)));
+    assert_eq!(fault(&[&HEAD]), Some((21, 16)));
+    assert_eq!(fault(&[&HEAD, &PASSAGE]), Some((21, 28)));
+    assert_eq!(fault(&[&HEAD, &ROW_0, &[2, 0, 9]]), Some((21, 26)));
+    assert_eq!(fault(&[&HEAD, &ROW_0, &[2, 0, 9, 9]]), Some((21, 26)));
+    assert_eq!(fault(&[&HEAD[..15]]), Some((21, 0)));
+    assert_eq!(fault(&[&ROW_0]), Some((22, 0)));
+    assert_eq!(fault(&[&HEAD, &HEAD]), Some((22, 16)));
+    assert_eq!(fault(&[&HEAD, &TAKE_0]), Some((22, 16)));
+    assert_eq!(fault(&[&HEAD, &ROW_0, &ROW_0]), Some((22, 26)));
+    assert_eq!(fault(&[&HEAD, &ROW_0, &PASSAGE]), Some((22, 26)));
+    assert_eq!(fault(&[&HEAD, &ROW_0, &TAKE_0, &ROW_0]), Some((22, 32)));
+    assert_eq!(fault(&[&HEAD, &ROW_0, &[2, 0, 4, 0, 2, 0]]), Some((22, 26)));
+    assert_eq!(fault(&[&HEAD, &ROW_0, &[1, 0, 4, 0, 1]]), Some((22, 26)));
+    assert_eq!(fault(&[&HEAD, &[0, 0, 0, 0]]), Some((22, 16)));
+    assert_eq!(fault(&[&HEAD, &[0, 0, 5, 0]]), Some((22, 16)));
+    assert_eq!(fault(&[&[11, 0, 1, 0], &[0; 11]]), Some((22, 0)));
+    assert_eq!(fault(&[&no_states, &ROW_0]), Some((23, 0)));
+    assert_eq!(fault(&[&many_states]), Some((23, 0)));
+    assert_eq!(fault(&[&HEAD, &passages, &ROW_0]), None);
+    assert_eq!(fault(&[&HEAD, &passages, &PASSAGE]), Some((23, 6160)));
+    assert_eq!(fault(&[&vec![0; MAX_FILE + 1]]), Some((23, MAX_FILE)));
+    assert_eq!(fault(&[&vec![0; MAX_FILE]]), Some((22, 0)));
+}
+
+#[test]
+fn printed_faults_and_refusals() {
+    let mut no_workers = HEAD;
+    no_workers[6] = 0;
+    assert_eq!(taskfile::deskrun(&HEAD), "file 21 16\n");
+    assert_eq!(
+        taskfile::deskrun(&[no_workers.as_slice(), &ROW_0].concat()),
+        "opening 1\n"
+    );
+    assert_eq!(taskfile::deskrun(&[HEAD.as_slice(), &ROW_0].concat()), "");
+    let calls = [TAKE_0, [2, 0, 4, 0, 1, 0], [2, 0, 4, 0, 0, 200]].concat();
+    let text = taskfile::deskrun(&[HEAD.as_slice(), &ROW_0, &calls].concat());
+    assert_eq!(text, "found 0 0\npath 0\nrefused 0 10\nrefused 200 9\n");
+}
+
+#[test]
+fn print_asks_for_room() {
+    let mut out = vec![b'.'; 262_143];
+    assert_eq!(Independent.print(&HEAD, &mut out), 0);
+    assert!(out.iter().all(|&byte| byte == b'.'));
+    out.push(b'.');
+    assert_eq!(Independent.print(&HEAD, &mut out), 11);
+    assert_eq!(&out[..13], b"file 21 16\n..");
+}
+
+/// The longest text fits the room that `print` asks for.
+#[test]
+fn longest_file_prints_within_the_room() {
+    let calls = (MAX_FILE - 26) / 6;
+    let file = [HEAD.as_slice(), &ROW_0, &[2, 0, 4, 0, 0, 255].repeat(calls)].concat();
+    assert_eq!(
+        taskfile::deskrun(&file).len(),
+        calls * "refused 255 9\n".len()
+    );
+}
+
+// ---- Demand 3, the maker, and all together ----
+
+#[test]
+fn demand_3_catches_wrong_runs() {
+    let task = task_a();
+    assert_eq!(shortest(&task), Some(6));
+    let mut watch = Watch::new(&task);
+    assert!(watch.see(Reply::Took(2)).is_ok());
+    assert!(watch.see(Reply::Took(2)).is_err());
+    assert!(watch.see(Reply::NoPath).is_err());
+    assert!(watch.see(Reply::Found(11)).is_err());
+    assert!(watch.see(Reply::Found(5)).is_err());
+    assert!(watch.see(Reply::Found(6)).is_ok());
+    let mut row = vec![0; ROW];
+    rows::encode(&found_machine(), &mut row);
+    assert!(watch.see_path(&row, &[0, 1, 2, 3, 4], 6).is_ok());
+    assert!(watch.see_path(&row, &[0, 1, 2, 3, 4], 7).is_err());
+    assert!(watch.see_path(&row, &[0, 2, 3, 4], 8).is_err());
+    assert!(watch.see_path(&row, &[1, 2, 3, 4], 4).is_err());
+    let cut = changed(|t| t.passages.truncate(12));
+    assert!(Watch::new(&cut).see(Reply::Found(6)).is_err());
+    assert!(Watch::new(&cut).see(Reply::NoPath).is_ok());
+}
+
+/// A stand-in for a library: the independent desk with one thing wrong.
+struct Wrong(fn(&mut [u32], u64) -> u64);
+
+impl RowDesk for Wrong {
+    fn open(&self, task: &Task, row: &mut [u32]) -> u64 {
+        Independent.open(task, row)
+    }
+    fn take(&self, row: &mut [u32], graph: Graph, worker: usize) -> u64 {
+        let reply = Independent.take(row, graph, worker);
+        (self.0)(row, reply)
+    }
+    fn bring(&self, row: &mut [u32], graph: Graph, worker: usize) -> u64 {
+        Independent.bring(row, graph, worker)
+    }
+    fn path(&self, row: &[u32], graph: Graph, buffer: &mut [u16], at: usize) -> u64 {
+        Independent.path(row, graph, buffer, at)
+    }
+    fn print(&self, file: &[u8], out: &mut [u8]) -> usize {
+        Independent.print(file, out)
+    }
+}
+
+fn count_differences(library: Option<&dyn RowDesk>, cases: u64) -> (usize, Tally) {
+    let mut desks = Desks {
+        library,
+        verbose: false,
+        tally: Tally::default(),
+    };
+    let differing = (0..cases).filter(|&case| run_case(&mut desks, 3, case).is_err());
+    let count = differing.count();
+    (count, desks.tally)
+}
+
+#[test]
+fn comparison_sees_a_wrong_reply_and_a_wrong_number() {
+    assert_eq!(count_differences(Some(&Independent), 300).0, 0);
+    let other_refusal = Wrong(|_, reply| reply + u64::from(reply == 7 << 32 | 9));
+    assert!(count_differences(Some(&other_refusal), 300).0 > 0);
+    let forgets_phase = Wrong(|row, reply| {
+        if reply >> 32 == 4 {
+            row[6] = 0;
+        }
+        reply
+    });
+    assert!(count_differences(Some(&forgets_phase), 300).0 > 0);
+}
+
+/// The cases meet every reply and every refusal and fault but 12 and 27: the
+/// open state of the smallest label depends on no open one, so 12 is not met on
+/// any machine; the file reader here lends no slices.
+#[test]
+fn cases_meet_everything() {
+    let (faults, tally) = count_differences(None, 4000);
+    assert_eq!(faults, 0);
+    let met = |call, word, numbers: &[u32]| {
+        for &number in numbers {
+            assert!(
+                tally.count(call, word, number) > 0,
+                "{call} {word} {number}"
+            );
+        }
+    };
+    for (call, words) in [
+        ("open", ["opened"].as_slice()),
+        ("take", &["took", "found", "nopath", "wait"]),
+        ("bring", &["brought"]),
+        ("path", &["read"]),
+        ("print", &["run", "nothing"]),
+    ] {
+        words.iter().for_each(|word| met(call, word, &[0]));
+    }
+    met("open", "refused", &[1, 2, 3, 4, 5, 6, 7, 8]);
+    met("take", "refused", &[8, 9, 10, 11]);
+    met("bring", "refused", &[8, 9, 10, 11]);
+    met("path", "refused", &[8, 13, 14, 15]);
+    met("print", "file", &[21, 22, 23]);
+    met("print", "opening", &[1, 2, 3]);
+}
+
+#[test]
+fn made_files_read_back() {
+    let task = task_a();
+    let file = maker::file_of(&task, &[(Action::Bring, 7)]);
+    let (read, calls) = taskfile::read(&file).expect("a good file");
+    assert_eq!(read.head, task.head);
+    assert_eq!(
+        (read.passages, read.estimates),
+        (task.passages, task.estimates)
+    );
+    assert_eq!(
+        (calls.len(), calls[0].action, calls[0].worker),
+        (1, Action::Bring, 7)
+    );
+}
