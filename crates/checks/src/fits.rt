@@ -8,12 +8,13 @@ pub fn marks_right(mark: &[u8; 256], n: usize) -> bool
     requires { ⌜ n ≤ 256 ⌝ }
     ensures { λ r. ⌜ r ≡ marksRight (now (mark .entry)) n ⌝ }
 {
+    let mut right = true;
     for s in 0..n {
         if mark[s] > rule::FINISHED {
-            return false;
+            right = false;
         }
     }
-    true
+    right
 }
 
 // No state below n has a label that is too high.
@@ -21,12 +22,13 @@ pub fn labels_right(label: &[u32; 256], n: usize) -> bool
     requires { ⌜ n ≤ 256 ⌝ }
     ensures { λ r. ⌜ r ≡ labelsRight (now (label .entry)) n ⌝ }
 {
+    let mut right = true;
     for s in 0..n {
         if label[s] > 255000000 {
-            return false;
+            right = false;
         }
     }
-    true
+    right
 }
 
 // A worker that holds this holds nothing, or an out state.

@@ -134,12 +134,14 @@ pub fn detours_by(estimates: &[u32], n: usize, a: usize, b: usize) -> bool
     ensures { λ r. ⌜ r ≡ detoursBy (now (estimates .entry)) n a b ⌝ }
 {
     let to_b = rule::estimate(estimates, n, a, b);
+    let mut right = true;
+    // The loop has no way out but its end, so that several places can be compared at a time.
     for c in 0..n {
         if rule::estimate(estimates, n, a, c) > to_b + rule::estimate(estimates, n, b, c) {
-            return false;
+            right = false;
         }
     }
-    true
+    right
 }
 
 // All detours from a, of 7.

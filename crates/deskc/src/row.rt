@@ -23,12 +23,13 @@ pub fn at_most(row: &[u32], from: usize, count: usize, most: u32) -> bool
     requires { ⌜ from + count ≤ length (now row) ⌝ }
     ensures { λ r. ⌜ r ≡ atMost (now (row .entry)) from count most ⌝ }
 {
+    let mut right = true;
     for i in 0..count {
         if row[from + i] > most {
-            return false;
+            right = false;
         }
     }
-    true
+    right
 }
 
 // A row holds a machine.

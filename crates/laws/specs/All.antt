@@ -7,7 +7,7 @@ use Prim.Native.Nat.{ℕ, zero, suc, _+_, _≤_, _<_}
 use native.Mathlib.Nat.{le-of-suc-le-suc, not-suc-le-zero, eq-or-lt-of-le}
 use native.Mathlib.Numerals.{add-one}
 use native.Mathlib.Omega.{arith}
-use Rattle.laws.specs.Truth.{and-left, and-right, and-false}
+use Rattle.laws.specs.Truth.{and-left, and-right, and-false, and-true}
 
 -- every number below n passes p
 unfoldable pub all : (ℕ → Bool) → ℕ → Bool
@@ -32,6 +32,18 @@ module _ (p : ℕ → Bool) where
 
   pub all-end : (i n : ℕ) → all p i ≡ true → i ≤ n → n ≤ i → true ≡ all p n
   all-end i n e l g = let q : i ≡ n = omega arith in sym (rw q at e)
+
+  -- a loop that goes on to the end and keeps what it has seen so far
+  pub all-kept : (i : ℕ) (b : Bool) → b ≡ all p i → p i ≡ true → b ≡ all p (i + 1)
+  unfolding all
+  all-kept i b e h = rw (add-one, h, ← e) (sym (and-true b))
+
+  pub all-lost : (i : ℕ) → p i ≡ false → false ≡ all p (i + 1)
+  unfolding all
+  all-lost i h = rw (add-one, h) (sym (and-false (all p i)))
+
+  pub all-whole : (i n : ℕ) (b : Bool) → b ≡ all p i → i ≤ n → n ≤ i → b ≡ all p n
+  all-whole i n b e l g = let q : i ≡ n = omega arith in rw q at e
 
   -- what a caller has of a check that passed
   pub all-at : (n i : ℕ) → all p n ≡ true → i < n → p i ≡ true

@@ -1,51 +1,54 @@
--- The invariant is that no state below s has a label that is too high, and the first that has one settles the check.
-use mathlib.Core.Path.{_≡_}
-use mathlib.Core.Bool.{true}
-use Prim.Native.Nat.{_≤_, _-_}
-use lib.ListN.{getD}
-use lib.Dec.{leb}
+-- The invariant: right says whether no state below s has a label that is too high.
 use borrow.Author.Needs.{needs}
-use borrow.Author.Tests.{le-leb, lt-leb}
-use Rattle.laws.specs.All.{all, all-zero, all-more, all-stop, all-end}
 use Rattle.checks.specs.Fits.{labelsRight}
+use mathlib.Core.Path.{_≡_, sym}
+use mathlib.Core.Logic.{⊎-elim}
+use Prim.Native.Nat.{_≤_, _-_}
+use borrow.Author.Tests.{le-leb, lt-leb}
+use lib.Dec.{leb}
+use lib.ListN.{getD}
+use Rattle.laws.specs.All.{all, all-zero, all-kept, all-lost, all-whole}
 use Rattle.checks.proofs.fits.labels_right.Statement.{statement}
 use Rattle.checks.proofs.fits.labels_right.Tie as tie
+use Rattle.checks.proofs.fits.labels_right.Reads as reads
+use Rattle.checks.proofs.fits.labels_right.Lts as lts
 
 abbrev Inv-loop : tie.InvT-loop
-Inv-loop label n s₀ s = (s ≤ n) × (all (λ s. leb (getD label s 0) 255000000) s ≡ true)
+Inv-loop label n right₀ s₀ right s = (s ≤ n) × (right ≡ all (λ i. leb (getD label i 0) 255000000) s)
 
 abbrev μ-loop : tie.MeasureT-loop
-μ-loop label n s₀ s = n - s
+μ-loop label n right₀ s₀ right s = n - s
 
+-- src/fits.rt:26:5
 loop-holds : tie.Need-loop-holds Inv-loop μ-loop
-loop-holds c = (search needs, all-zero _)
+loop-holds c = (search needs, sym (all-zero _))
 
+-- src/fits.rt:27:12
 mul-if1 : tie.Need-mul-if1 Inv-loop μ-loop
 mul-if1 c = search needs
 
+-- src/fits.rt:27:12
 element-copy-out-if1 : tie.Need-element-copy-out-if1 Inv-loop μ-loop
 element-copy-out-if1 c = search needs
 
-returns : tie.Need-returns Inv-loop μ-loop
-unfolding labelsRight
-returns c =
-    let l = c .before .before .before .loop in
-    all-stop _ (l .s) _ (lt-leb _ _ (c .if1 .taken)) (c .before .before .loop-test .taken)
-
+-- src/fits.rt:26:9
 add-s : tie.Need-add-s Inv-loop μ-loop
 add-s c = search needs
 
+-- src/fits.rt:26:5
 loop-less : tie.Need-loop-less Inv-loop μ-loop
 loop-less c = search needs
 
+-- src/fits.rt:26:5
 loop-again : tie.Need-loop-again Inv-loop μ-loop
 loop-again c =
     let l = c .before .before .before .loop in
-    (search needs, all-more _ (l .s) (l .inv .1) (le-leb _ _ (c .if1 .left)))
+    (search needs, ⊎-elim (λ w. rw (w .1) (all-lost _ (l .s) (lt-leb _ 255000000 (w .0 .taken)))) (λ w. rw (w .1) (all-kept _ (l .s) _ (l .inv .1) (le-leb _ 255000000 (w .0 .left)))) (c .if1 .came))
 
-returns-2 : tie.Need-returns-2 Inv-loop μ-loop
+-- src/fits.rt:21:1
+returns : tie.Need-returns Inv-loop μ-loop
 unfolding labelsRight
-returns-2 c = let l = c .before .loop in all-end _ (l .s) _ (l .inv .1) (l .inv .0) (c .loop-test .left)
+returns c = let l = c .before .loop in all-whole _ (l .s) _ _ (l .inv .1) (l .inv .0) (c .loop-test .left)
 
 pub labels-right-spec : {M : Type 1} → statement M
 labels-right-spec =
@@ -56,8 +59,7 @@ labels-right-spec =
     loop-holds
     mul-if1
     element-copy-out-if1
-    returns
     add-s
     loop-less
     loop-again
-    returns-2)
+    returns)

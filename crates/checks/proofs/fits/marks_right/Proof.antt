@@ -1,59 +1,53 @@
--- The invariant is that every state below s has one of the marks, and the first that has none settles the check.
-use mathlib.Core.Path.{_≡_}
-use mathlib.Core.Bool.{true}
-use Prim.Native.Nat.{_≤_, _-_}
-use lib.ListN.{getD}
+-- The invariant: right says whether every state below s has one of the marks.
 use borrow.Author.Needs.{needs}
-use borrow.Author.Tests.{le-leb, lt-leb}
-use Rattle.laws.specs.All.{all, all-zero, all-more, all-stop, all-end}
-use Rattle.rule.specs.Marks.{isMark}
 use Rattle.checks.specs.Fits.{marksRight}
+use Rattle.rule.specs.Marks.{isMark}
+use mathlib.Core.Path.{_≡_, sym}
+use mathlib.Core.Logic.{⊎-elim}
+use Prim.Native.Nat.{_≤_, _-_}
+use borrow.Author.Tests.{le-leb, lt-leb}
+use lib.Dec.{leb}
+use lib.ListN.{getD}
+use Rattle.laws.specs.All.{all, all-zero, all-kept, all-lost, all-whole}
 use Rattle.checks.proofs.fits.marks_right.Statement.{statement}
 use Rattle.checks.proofs.fits.marks_right.Tie as tie
+use Rattle.checks.proofs.fits.marks_right.Reads as reads
+use Rattle.checks.proofs.fits.marks_right.Lts as lts
 
 abbrev Inv-loop : tie.InvT-loop
-Inv-loop mark n s₀ s = (s ≤ n) × (all (λ s. isMark (getD mark s 0)) s ≡ true)
+Inv-loop mark n right₀ s₀ right s = (s ≤ n) × (right ≡ all (λ i. isMark (getD mark i 0)) s)
 
 abbrev μ-loop : tie.MeasureT-loop
-μ-loop mark n s₀ s = n - s
+μ-loop mark n right₀ s₀ right s = n - s
 
+-- src/fits.rt:12:5
 loop-holds : tie.Need-loop-holds Inv-loop μ-loop
-loop-holds c = (search needs, all-zero _)
+loop-holds c = (search needs, sym (all-zero _))
 
+-- src/fits.rt:13:12
 element-copy-out-if1 : tie.Need-element-copy-out-if1 Inv-loop μ-loop
 element-copy-out-if1 c = search needs
 
-returns : tie.Need-returns Inv-loop μ-loop
-unfolding marksRight
-returns c =
-    let l = c .before .before .before .loop in
-    all-stop _ (l .s) _ (lt-leb _ _ (c .if1 .taken)) (c .before .before .loop-test .taken)
-
+-- src/fits.rt:12:9
 add-s : tie.Need-add-s Inv-loop μ-loop
 add-s c = search needs
 
+-- src/fits.rt:12:5
 loop-less : tie.Need-loop-less Inv-loop μ-loop
 loop-less c = search needs
 
+-- src/fits.rt:12:5
 loop-again : tie.Need-loop-again Inv-loop μ-loop
 loop-again c =
     let l = c .before .before .before .loop in
-    (search needs, all-more _ (l .s) (l .inv .1) (le-leb _ _ (c .if1 .left)))
+    (search needs, ⊎-elim (λ w. rw (w .1) (all-lost _ (l .s) (lt-leb _ 3 (w .0 .taken)))) (λ w. rw (w .1) (all-kept _ (l .s) _ (l .inv .1) (le-leb _ 3 (w .0 .left)))) (c .if1 .came))
 
-returns-2 : tie.Need-returns-2 Inv-loop μ-loop
+-- src/fits.rt:7:1
+returns : tie.Need-returns Inv-loop μ-loop
 unfolding marksRight
-returns-2 c = let l = c .before .loop in all-end _ (l .s) _ (l .inv .1) (l .inv .0) (c .loop-test .left)
+returns c = let l = c .before .loop in all-whole _ (l .s) _ _ (l .inv .1) (l .inv .0) (c .loop-test .left)
 
 pub marks-right-spec : {M : Type 1} → statement M
 marks-right-spec =
     tie.close
-    (tie.spec
-    Inv-loop
-    μ-loop
-    loop-holds
-    element-copy-out-if1
-    returns
-    add-s
-    loop-less
-    loop-again
-    returns-2)
+    (tie.spec Inv-loop μ-loop loop-holds element-copy-out-if1 add-s loop-less loop-again returns)
