@@ -33,7 +33,7 @@ enum {
     DESK_BROUGHT = 2, /* how many times a label was set or lowered */
     DESK_FOUND = 3,   /* the cost of the path */
     DESK_NOPATH = 4,
-    DESK_WAIT = 5,
+    DESK_WAIT = 5,    /* the state waited for */
     DESK_READ = 6,    /* how many states the path has */
     DESK_REFUSED = 7  /* the refusal's number, 1 to 15 */
 };

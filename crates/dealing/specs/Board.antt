@@ -49,6 +49,10 @@ key goal pull b s = keyOf (labelAt b s) pull (h b s goal)
 unfoldable pub choice : ℕ → ℕ → Board → ℕ
 choice goal pull b = least (safe b) (key goal pull b) (b .n) (b .n)
 
+-- the open state with the smallest key, the lowest number among equals; or n
+unfoldable pub foremost : ℕ → ℕ → Board → ℕ
+foremost goal pull b = least (λ s. isOpen (markAt b s)) (key goal pull b) (b .n) (b .n)
+
 -- something is open; something is out
 unfoldable pub anyOpen : Board → Bool
 anyOpen b = any (λ s. isOpen (markAt b s)) (b .n)

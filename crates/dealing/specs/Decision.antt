@@ -2,19 +2,33 @@
 use mathlib.Core.Bool.{_&&_, not, cond}
 use Prim.Native.Nat.{ℕ}
 use lib.Dec.{ltb}
+use Rattle.rule.specs.Marks.{out}
+use Rattle.dealing.specs.declared.Choice.{Choice}
+use Rattle.dealing.specs.declared.Choice.the-variants.{Safe, Stopped, NoneOpen}
 use Rattle.dealing.specs.declared.Decision.{Decision}
 use Rattle.dealing.specs.declared.Decision.the-variants.{Found, NoPath, Deal, Stuck, Wait}
-use Rattle.dealing.specs.Board.{Board, labelAt, safe, choice, anyOpen, anyOut}
+use Rattle.dealing.specs.Board.{Board, labelAt, firstDependence, safe, choice, foremost, anyOpen, anyOut, firstMarked}
+
+-- what going through the open states comes to: the safe one that is dealt; or none is safe, and the test of the smallest-key one stopped at a state; or nothing is open
+unfoldable pub choose : ℕ → ℕ → Board → Choice
+choose goal pull b =
+    cond (ltb (choice goal pull b) (b .n)) (Safe (choice goal pull b))
+    (cond (anyOpen b) (Stopped (firstDependence b (foremost goal pull b)))
+    NoneOpen)
+
+-- order 1: "with something open, the lowest-numbered state that the smallest-key open state depends on (lowest number among equal keys); with nothing open, the lowest-numbered out state"
+unfoldable pub waitedFor : ℕ → ℕ → Board → ℕ
+waitedFor goal pull b = cond (anyOpen b) (firstDependence b (foremost goal pull b)) (firstMarked (b .mark) (b .n) out)
 
 -- 1 "the goal is open and safe: Found with its label"
 -- 2 "nothing is open or out: NoPath"
 -- 3 "some open state is safe: Took the one with the smallest key, the lowest number among equals"
 -- 4 "nothing is out: refusal 12"
--- 5 "otherwise Wait"
+-- 5 "otherwise Wait", which carries a state
 unfoldable pub decision : ℕ → ℕ → Board → Decision
 decision goal pull b =
     cond (safe b goal) (Found (labelAt b goal))
     (cond (not (anyOpen b) && not (anyOut b)) NoPath
     (cond (ltb (choice goal pull b) (b .n)) (Deal (choice goal pull b))
     (cond (not (anyOut b)) Stuck
-    Wait)))
+    (Wait (waitedFor goal pull b)))))

@@ -3,8 +3,8 @@
 ghost use mathlib.Core.Path.{_≡_};
 ghost use Prim.Native.Nat.{_≤_, _<_};
 ghost use Rattle.rule.specs.Task.{Whole};
-ghost use Rattle.dealing.specs.Board.{board, firstDependence, choice, firstMarked};
-ghost use Rattle.dealing.specs.Decision.{decision};
+ghost use Rattle.dealing.specs.Board.{board, firstDependence, firstMarked};
+ghost use Rattle.dealing.specs.Decision.{choose, decision};
 
 // The five steps of Take, in their order, with what each names.
 pub enum Decision {
@@ -12,7 +12,15 @@ pub enum Decision {
     NoPath,
     Deal(usize),
     Stuck,
-    Wait,
+    Wait(usize),
+}
+
+// What going through the open states comes to: the safe one to deal; or none is safe, and the test of the one with the
+// smallest key stopped at a state; or nothing is open.
+pub enum Choice {
+    Safe(usize),
+    Stopped(usize),
+    NoneOpen,
 }
 
 // The first state that s depends on, or n where it depends on none.
@@ -39,7 +47,8 @@ pub fn first_dependence<'a>(
     n
 }
 
-// The safe state with the smallest key, the lowest number among equals; or n where none is safe.
+// The safe state with the smallest key, the lowest number among equals. Where none is safe, the test of the open state
+// with the smallest key, the lowest number among equals, says where it stopped.
 pub fn choose<'a>(
     mark: &'a [u8; 256],
     label: &'a [u32; 256],
@@ -48,12 +57,17 @@ pub fn choose<'a>(
     excess: u16,
     goal: usize,
     pull: u16,
-) -> usize
+) -> Choice
     requires { ⌜ Whole (now estimates) n × (goal < n) ⌝ }
-    ensures { λ r. ⌜ r ≡ choice goal pull (board n excess (now (estimates .entry)) (now (mark .entry)) (now (label .entry))) ⌝ }
+    ensures { λ r. ⌜ r ≡ choose goal pull (board n excess (now (estimates .entry)) (now (mark .entry)) (now (label .entry))) ⌝ }
 {
+    // The safe state that leads, and its key.
     let mut best = n;
     let mut least: u64 = 0;
+    // While none is safe: the open state that leads, its key, and where its test stopped.
+    let mut front = n;
+    let mut ahead: u64 = 0;
+    let mut stop = n;
     let mut next = 0;
     'candidates: while next < n {
         let s = next;
@@ -73,6 +87,14 @@ pub fn choose<'a>(
             if t != s {
                 let h = rule::estimate(estimates, n, t, s);
                 if rule::holds_back(mark[t], label_s, label[t], excess, h) {
+                    if front != n {
+                        if key >= ahead {
+                            continue 'candidates;
+                        }
+                    }
+                    front = s;
+                    ahead = key;
+                    stop = t;
                     continue 'candidates;
                 }
             }
@@ -80,7 +102,13 @@ pub fn choose<'a>(
         best = s;
         least = key;
     }
-    best
+    if best != n {
+        return Choice::Safe(best);
+    }
+    if front != n {
+        return Choice::Stopped(stop);
+    }
+    Choice::NoneOpen
 }
 
 // The lowest state below n with this mark, or n.
@@ -122,12 +150,15 @@ pub fn decide<'a>(
             return Decision::NoPath;
         }
     }
-    let s = choose(mark, label, estimates, n, excess, goal, pull);
-    if s < n {
-        return Decision::Deal(s);
+    let choice = choose(mark, label, estimates, n, excess, goal, pull);
+    match choice {
+        Choice::Safe(s) => Decision::Deal(s),
+        Choice::Stopped(t) => {
+            if out < n {
+                return Decision::Wait(t);
+            }
+            Decision::Stuck
+        }
+        Choice::NoneOpen => Decision::Wait(out),
     }
-    if out >= n {
-        return Decision::Stuck;
-    }
-    Decision::Wait
 }

@@ -19,7 +19,7 @@ use Rattle.checks.specs.Fits.{phaseRight, marksRight, labelsRight, workersRight
 use Rattle.checks.specs.Laws.{Right, right, fault-none, near-in, far-in, cost-in, label-low, worker-holds}
 use Rattle.dealing.specs.Board.{Board}
 use Rattle.dealing.specs.Decision.{decision}
-use Rattle.dealing.specs.Laws.{deal-in}
+use Rattle.dealing.specs.Laws.{deal-in, wait-in}
 use Rattle.dealing.specs.declared.Decision.{Decision}
 use Rattle.dealing.specs.declared.Decision.the-variants.{Found, NoPath, Deal, Stuck, Wait}
 use Rattle.trail.specs.Trail.{pathLength, path, statesBack}
@@ -103,23 +103,23 @@ module _ (m : Machine) (passages estimates : List ℕ) (worker : ℕ) where
     unfolding admitted
     goes-on a r = rw (a .fit, lt-ltb worker (m .k) (a .worker-in), eq-eqb (m .phase) 0 (a .searching), r)
 
--- a state that is dealt has a place in the rows
-abbrev pub Dealable : Decision → Type 0
-Dealable (Found cost) = Unit {0}
-Dealable NoPath = Unit {0}
-Dealable (Deal s) = s < 256
-Dealable Stuck = Unit {0}
-Dealable Wait = Unit {0}
+-- a state that a decision names has a place in the rows
+abbrev pub Placed : Decision → Type 0
+Placed (Found cost) = Unit {0}
+Placed NoPath = Unit {0}
+Placed (Deal s) = s < 256
+Placed Stuck = Unit {0}
+Placed (Wait s) = s < 256
 
-pub dealable : (goal pull : ℕ) (b : Board) → b .n ≤ 256 → Dealable (decision goal pull b)
-dealable goal pull b l = go (decision goal pull b) (λ s e. omega (arith, deal-in goal pull b s e))
+pub placed : (goal pull : ℕ) (b : Board) → b .n ≤ 256 → Placed (decision goal pull b)
+placed goal pull b l = go (decision goal pull b) (λ s e. omega (arith, deal-in goal pull b s e)) (λ s e. omega (arith, wait-in goal pull b s e))
   where
-    go : (d : Decision) → ((s : ℕ) → d ≡ Deal s → s < 256) → Dealable d
-    go (Found cost) f = tt
-    go NoPath f = tt
-    go (Deal s) f = f s refl
-    go Stuck f = tt
-    go Wait f = tt
+    go : (d : Decision) → ((s : ℕ) → d ≡ Deal s → s < 256) → ((s : ℕ) → d ≡ Wait s → s < 256) → Placed d
+    go (Found cost) f g = tt
+    go NoPath f g = tt
+    go (Deal s) f g = f s refl
+    go Stuck f g = tt
+    go (Wait s) f g = g s refl
 
 -- the state s can be brought: far ends have places in the rows, and label + cost fits 32 bits
 pub record Carried (m : Machine) (passages : List ℕ) (s : ℕ) : Type 0 where

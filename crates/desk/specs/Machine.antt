@@ -27,6 +27,9 @@ withHeld m w s = record { n = m .n; k = m .k; start = m .start; goal = m .goal; 
 abbrev pub heldBy : Machine → ℕ → ℕ
 heldBy m w = getD (m .held) w 0
 
+abbrev pub markOf : Machine → ℕ → ℕ
+markOf m s = getD (m .mark) s 0
+
 abbrev pub labelOf : Machine → ℕ → ℕ
 labelOf m s = getD (m .label) s 0
 

@@ -1,5 +1,8 @@
 -- Replies: a machine handed back with a reply beside it, and the document's number and value for each case.
+-- A case that is added, or gains a number, is added here; what callers make of one case they say by `when`.
+use mathlib.Core.Bool.{cond}
 use Prim.Native.Nat.{ℕ, _+_, _*_}
+use lib.Dec.{eqb}
 use Rattle.desk.specs.declared.Machine.{Machine}
 use Rattle.desk.specs.declared.Reply.{Reply}
 use Rattle.desk.specs.declared.Reply.the-variants.{Opened, Took, Brought, Found, NoPath, Wait, Read, Refused}
@@ -13,38 +16,49 @@ answer m r = record { machine = m; reply = r }
 abbrev pub refused : Machine → ℕ → Answer
 refused m number = answer m (Refused number)
 
--- the refusal's number; 0 where the call was not refused
-abbrev pub refusalOf : Reply → ℕ
-refusalOf Opened = 0
-refusalOf (Took s) = 0
-refusalOf (Brought many) = 0
-refusalOf (Found cost) = 0
-refusalOf NoPath = 0
-refusalOf Wait = 0
-refusalOf (Read many) = 0
-refusalOf (Refused number) = number
-
--- the number that the reply carries: the state taken, the labels set or lowered, the cost found, the states of the path, the refusal's number; 0 where it carries none
-abbrev pub valueOf : Reply → ℕ
-valueOf Opened = 0
-valueOf (Took s) = s
-valueOf (Brought many) = many
-valueOf (Found cost) = cost
-valueOf NoPath = 0
-valueOf Wait = 0
-valueOf (Read many) = many
-valueOf (Refused number) = number
-
--- a reply as one number: its case times 2^32, plus its value
+-- the number of the case
 abbrev pub caseOf : Reply → ℕ
 caseOf Opened = 0
 caseOf (Took s) = 1
 caseOf (Brought many) = 2
 caseOf (Found cost) = 3
 caseOf NoPath = 4
-caseOf Wait = 5
+caseOf (Wait s) = 5
 caseOf (Read many) = 6
 caseOf (Refused number) = 7
 
+-- the number that the reply carries: the state taken, the labels set or lowered, the cost found, the state waited for, the states of the path, the refusal's number; 0 where it carries none
+abbrev pub valueOf : Reply → ℕ
+valueOf Opened = 0
+valueOf (Took s) = s
+valueOf (Brought many) = many
+valueOf (Found cost) = cost
+valueOf NoPath = 0
+valueOf (Wait s) = s
+valueOf (Read many) = many
+valueOf (Refused number) = number
+
+-- the cases that callers look for
+abbrev pub took : ℕ
+took = 1
+
+abbrev pub found : ℕ
+found = 3
+
+abbrev pub read : ℕ
+read = 6
+
+abbrev pub refusal : ℕ
+refusal = 7
+
+-- what is made of a reply's number where the reply is of a case, and what stands for every other reply
+abbrev pub when : {A : Type 0} → ℕ → Reply → (ℕ → A) → A → A
+when case r f other = cond (eqb (caseOf r) case) (f (valueOf r)) other
+
+-- the refusal's number; 0 where the call was not refused
+abbrev pub refusalOf : Reply → ℕ
+refusalOf r = when refusal r (λ number. number) 0
+
+-- a reply as one number: its case times 2^32, plus its value
 unfoldable pub codeOf : Reply → ℕ
 codeOf r = caseOf r * 4294967296 + valueOf r

@@ -17,13 +17,13 @@ use Rattle.desk.specs.Admission.{admitted}
 abbrev pub dealt : Machine → ℕ → ℕ → Machine
 dealt m worker s = withHeld (withMark m s out) worker s
 
--- 1 "Found with its label, phase 1"; 2 "NoPath, phase 2"; 3 "Took"; 4 "refusal 12"; 5 "Wait, machine unchanged"
+-- 1 "Found with its label, phase 1"; 2 "NoPath, phase 2"; 3 "Took"; 4 "refusal 12"; 5 "Wait, machine unchanged", with the state waited for
 abbrev pub act : Machine → ℕ → Decision → Answer
 act m worker (FoundAt cost) = answer (withPhase m 1) (Found cost)
 act m worker NoPathLeft = answer (withPhase m 2) NoPath
 act m worker (Deal s) = answer (dealt m worker s) (Took s)
 act m worker Stuck = refused m 12
-act m worker WaitOn = answer m Wait
+act m worker (WaitOn s) = answer m (Wait s)
 
 unfoldable pub takeStep : Machine → List ℕ → ℕ → Answer
 takeStep m estimates worker = act m worker (decision (m .goal) (m .pull) (boardOf m estimates))

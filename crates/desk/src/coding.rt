@@ -13,7 +13,7 @@ pub fn code(reply: Reply) -> u64
         Reply::Brought(many) => 8589934592 + (many as u64),
         Reply::Found(cost) => 12884901888 + (cost as u64),
         Reply::NoPath => 17179869184,
-        Reply::Wait => 21474836480,
+        Reply::Wait(s) => 21474836480 + (s as u64),
         Reply::Read(many) => 25769803776 + (many as u64),
         Reply::Refused(number) => 30064771072 + (number as u64),
     }

@@ -31,7 +31,7 @@ pub enum Reply {
     Brought(u32),
     Found(u32),
     NoPath,
-    Wait,
+    Wait(u16),
     Read(u16),
     Refused(u8),
 }

@@ -3,7 +3,7 @@ ghost use mathlib.Core.Path.{_≡_};
 ghost use Prim.Native.Nat.{_<_};
 ghost use Rattle.rule.specs.Task.{Whole};
 ghost use Rattle.desk.specs.Take.{act, takeStep, takeOf};
-ghost use Rattle.desk.specs.Laws.{Dealable};
+ghost use Rattle.desk.specs.Laws.{Placed};
 use super::Answer;
 use super::Machine;
 use super::Reply;
@@ -12,7 +12,7 @@ use dealing::Decision;
 
 // What a decided step does to the machine.
 pub fn act(m: Machine, worker: usize, decision: Decision) -> Answer
-    requires { ⌜ Dealable decision × (worker < 32) ⌝ }
+    requires { ⌜ Placed decision × (worker < 32) ⌝ }
     ensures { λ r. ⌜ r ≡ act m worker decision ⌝ }
 {
     let mut next = m;
@@ -41,9 +41,9 @@ pub fn act(m: Machine, worker: usize, decision: Decision) -> Answer
             }
         }
         Decision::Stuck => fits::refused(m, 12),
-        Decision::Wait => Answer {
+        Decision::Wait(s) => Answer {
             machine: m,
-            reply: Reply::Wait,
+            reply: Reply::Wait(s as u16),
         },
     }
 }

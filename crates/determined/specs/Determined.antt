@@ -8,7 +8,7 @@ use Rattle.desk.specs.declared.Answer.{Answer}
 use Rattle.desk.specs.Opening.{openingOf}
 use Rattle.desk.specs.Take.{takeOf}
 use Rattle.desk.specs.Bring.{bringOf}
-use Rattle.desk.specs.Path.{Reading, pathOf}
+use Rattle.desk.specs.Path.{pathOf}
 use Rattle.taskfile.specs.declared.Outcome.{Outcome}
 use Rattle.taskfile.specs.Contents.{readOf}
 use Rattle.report.specs.Text.{reportLength, reportBuffer}

@@ -7,7 +7,7 @@ use Prim.Native.Nat.{ℕ, zero, suc, _+_, _≤_, _<_}
 use native.Mathlib.Nat.{le-of-suc-le-suc, not-suc-le-zero, eq-or-lt-of-le}
 use native.Mathlib.Numerals.{add-one}
 use native.Mathlib.Omega.{arith}
-use Rattle.laws.specs.Truth.{and-left, and-right, and-false, and-true}
+use Rattle.laws.specs.Truth.{and-left, and-right, and-both, and-false, and-true}
 
 -- every number below n passes p
 unfoldable pub all : (ℕ → Bool) → ℕ → Bool
@@ -51,3 +51,9 @@ module _ (p : ℕ → Bool) where
   all-at zero i e l = absurd (not-suc-le-zero l)
   all-at (suc n) i e l =
       ⊎-elim (λ q. rw q (and-right (all p n) (p n) e)) (λ lt. all-at n i (and-left (all p n) (p n) e) lt) (eq-or-lt-of-le (le-of-suc-le-suc l))
+
+  -- and what makes one pass
+  pub all-of : (n : ℕ) → ((x : ℕ) → x < n → p x ≡ true) → all p n ≡ true
+  unfolding all
+  all-of zero f = refl
+  all-of (suc n) f = and-both (all-of n (λ x l. f x (omega arith))) (f n (omega arith))

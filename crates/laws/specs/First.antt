@@ -1,13 +1,13 @@
 -- A search: the first number below n that passes a test.
 -- Assumes nothing.
 use mathlib.Core.Path.{_≡_, refl, sym, ap, _∙_}
-use mathlib.Core.Bool.{Bool, true, false, cond}
+use mathlib.Core.Bool.{Bool, true, false, cond, true≢false}
 use mathlib.Core.Logic.{⊎-elim, _⊎_, inl, inr}
 use Prim.Native.Nat.{ℕ, zero, suc, _+_, _≤_, _<_}
 use native.Mathlib.Nat.{le-of-suc-le-suc, not-suc-le-zero, eq-or-lt-of-le, le-refl, lt-irrefl}
 use native.Mathlib.Numerals.{add-one}
 use native.Mathlib.Omega.{arith}
-use borrow.Author.Tests.{lt-ltb, le-ltb}
+use borrow.Author.Tests.{lt-ltb, le-ltb, ltb-true, ltb-false}
 use lib.Dec.{ltb}
 
 -- one more number: what was found stays; else it is i, or none below i + 1
@@ -88,3 +88,24 @@ module _ (p : ℕ → Bool) where
       (λ w. ⊎-elim (λ q. rw q (w .1 .0)) (λ lt. first-before n k (rw (w .0) lt)) (eq-or-lt-of-le (le-of-suc-le-suc (rw (w .1 .1) at l))))
       v)
       (first-cases n (eq-or-lt-of-le (first-le n)) (p n) refl)
+
+  -- where nothing passes, nothing is found
+  pub first-none : (n : ℕ) → ((x : ℕ) → x < n → p x ≡ false) → first p n ≡ n
+  first-none n f = ⊎-elim (λ q. q) (λ l. absurd (true≢false (sym (first-passes n l) ∙ f (first p n) l))) (eq-or-lt-of-le (first-le n))
+
+  -- whether any passes, by what it says of every number
+  pub any-none : (n : ℕ) → any p n ≡ false → (x : ℕ) → x < n → p x ≡ false
+  any-none n e x l = first-before n x (omega (arith, ltb-false (first p n) n e))
+
+  pub any-some : (n : ℕ) → any p n ≡ true → (x : ℕ) × (x < n) × (p x ≡ true)
+  any-some n e = let l = ltb-true (first p n) n e in (first p n, l, first-passes n l)
+
+  pub any-not : (n : ℕ) → ((x : ℕ) → x < n → p x ≡ false) → any p n ≡ false
+  any-not n f = le-ltb (first p n) n (omega (arith, first-none n f))
+
+  pub any-of : (n x : ℕ) → x < n → p x ≡ true → any p n ≡ true
+  any-of n x l e = go (any p n) refl
+    where
+      go : (b : Bool) → any p n ≡ b → any p n ≡ true
+      go true q = q
+      go false q = absurd (true≢false (sym e ∙ any-none n q x l))

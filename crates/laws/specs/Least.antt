@@ -1,13 +1,18 @@
 -- A choice: the number below n that passes a test with the smallest key, the lowest number among equals.
 -- Assumes nothing.
-use mathlib.Core.Path.{_≡_, refl}
-use mathlib.Core.Bool.{Bool, true, false, cond}
-use mathlib.Core.Logic.{_⊎_, inl, inr}
+use mathlib.Core.Path.{_≡_, refl, sym, _∙_}
+use mathlib.Core.Bool.{Bool, true, false, cond, true≢false}
+use mathlib.Core.Logic.{_⊎_, inl, inr, ⊎-elim}
 use Prim.Native.Nat.{ℕ, zero, suc, _+_, _≤_, _<_}
+use native.Mathlib.Nat.{le-of-suc-le-suc, not-suc-le-zero, eq-or-lt-of-le}
 use native.Mathlib.Numerals.{add-one}
 use native.Mathlib.Omega.{arith}
-use borrow.Author.Tests.{lt-ltb, le-ltb, eq-eqb, ne-eqb, eqb-false}
+use borrow.Author.Tests.{lt-ltb, le-ltb, eq-eqb, ne-eqb, eqb-false, ltb-true, ltb-false}
 use lib.Dec.{ltb, eqb}
+
+-- what holds of the numbers below i, and of i, holds of the numbers up to i
+pub below-more : {P : ℕ → Type 0} (i : ℕ) → ((x : ℕ) → x < i → P x) → P i → (x : ℕ) → x < suc i → P x
+below-more {P} i f a x l = ⊎-elim (λ q. rw q a) (λ k. f x k) (eq-or-lt-of-le (le-of-suc-le-suc l))
 
 -- one more number: i wins where it passes, and nothing was chosen before or its key is smaller
 abbrev pub leastStep : (ℕ → Bool) → (ℕ → ℕ) → ℕ → ℕ → ℕ → ℕ
@@ -69,3 +74,51 @@ module _ (p : ℕ → Bool) (key : ℕ → ℕ) (none : ℕ) where
   unfolding least
   least-passes zero h = absurd (h refl)
   least-passes (suc i) h = step-passes i (least p key none i) (p i) refl (least-passes i) h
+
+  -- b is none, and nothing below n passes; or b passes, and no key of a number that passes is smaller than its key
+  abbrev pub IsLeast : ℕ → ℕ → Type 0
+  IsLeast n b = ((b ≡ none) × ((x : ℕ) → x < n → p x ≡ false)) ⊎ ((b < n) × (p b ≡ true) × ((x : ℕ) → x < n → p x ≡ true → key b ≤ key x))
+
+  step-is : (i b : ℕ) → i < none → IsLeast i b → (t : Bool) → p i ≡ t → IsLeast (suc i) (leastStep p key none i b)
+  step-is i b l (inl (e, f)) false q = rw q (inl (e, below-more i f q))
+  step-is i b l (inl (e, f)) true q =
+      rw (q, eq-eqb b none e) (inr (omega arith, q, below-more {P = λ x. p x ≡ true → key i ≤ key x} i (λ x k y. absurd (true≢false (sym y ∙ f x k))) (λ y. omega arith)))
+  step-is i b l (inr (k, y, f)) false q = rw q (inr (omega arith, y, below-more {P = λ x. p x ≡ true → key b ≤ key x} i f (λ z. absurd (true≢false (sym z ∙ q)))))
+  step-is i b l (inr (k, y, f)) true q = rw (q, ne-eqb b none (λ z. omega arith)) (go (ltb (key i) (key b)) refl)
+    where
+      go : (c : Bool) → ltb (key i) (key b) ≡ c → IsLeast (suc i) (cond c i b)
+      go true e = let less = ltb-true (key i) (key b) e in
+          inr (omega arith, q, below-more {P = λ x. p x ≡ true → key i ≤ key x} i (λ x j z. omega (arith, f x j z)) (λ z. omega arith))
+      go false e = inr (omega arith, y, below-more {P = λ x. p x ≡ true → key b ≤ key x} i f (λ z. ltb-false (key i) (key b) e))
+
+  pub least-is : (n : ℕ) → n ≤ none → IsLeast n (least p key none n)
+  unfolding least
+  least-is zero l = inl (refl, λ x k. absurd (not-suc-le-zero k))
+  least-is (suc i) l = step-is i (least p key none i) l (least-is i (omega arith)) (p i) refl
+
+  -- what was chosen is below n; where nothing below n was chosen, none passes
+  pub least-below : (n : ℕ) → n ≤ none → (least p key none n ≡ none → ⊥) → least p key none n < n
+  least-below n l z = ⊎-elim (λ w. absurd (z (w .0))) (λ w. w .0) (least-is n l)
+
+  pub least-nothing : (n : ℕ) → n ≤ none → n ≤ least p key none n → (x : ℕ) → x < n → p x ≡ false
+  least-nothing n l e = ⊎-elim (λ w. w .1) (λ w. absurd (omega (arith, w .0))) (least-is n l)
+
+  -- what is least is the lowest of its key: a lower number that passes has a larger key
+  lowest-step : (i b : ℕ) → i < none → IsLeast i b → ((b ≡ none → ⊥) → (x : ℕ) → x < b → p x ≡ true → key b < key x) → (t : Bool) → p i ≡ t
+      → (x : ℕ) → x < leastStep p key none i b → p x ≡ true → (leastStep p key none i b ≡ none → ⊥) → key (leastStep p key none i b) < key x
+  lowest-step i b l g h false q x k y n = rw q (h (rw q at n) x (rw q at k) y)
+  lowest-step i b l (inl (e, f)) h true q x k y n = absurd (true≢false (sym y ∙ f x (rw (q, eq-eqb b none e) at k)))
+  lowest-step i b l (inr (m, z, f)) h true q x k y n = rw (q, ne-eqb b none away) (go (ltb (key i) (key b)) refl (rw (q, ne-eqb b none away) at k))
+    where
+      away : b ≡ none → ⊥
+      away e = omega arith
+
+      go : (c : Bool) → ltb (key i) (key b) ≡ c → x < cond c i b → key (cond c i b) < key x
+      go true e j = omega (arith, ltb-true (key i) (key b) e, f x j y)
+      go false e j = h away x j y
+
+  pub least-lowest : (n : ℕ) → n ≤ none → (least p key none n ≡ none → ⊥) → (x : ℕ) → x < least p key none n → p x ≡ true → key (least p key none n) < key x
+  unfolding least
+  least-lowest zero l n x k y = absurd (n refl)
+  least-lowest (suc i) l n x k y =
+      lowest-step i (least p key none i) l (least-is i (omega arith)) (least-lowest i (omega arith)) (p i) refl x k y n

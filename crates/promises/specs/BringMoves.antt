@@ -21,10 +21,10 @@ use Rattle.argument.specs.Steps.{at-or}
 use Rattle.argument.specs.Good.{touch, advance, finish}
 use Rattle.desk.specs.declared.Machine.{Machine}
 use Rattle.desk.specs.declared.Swept.{Swept}
-use Rattle.desk.specs.Machine.{withMark, withHeld, labelOf, taskOf}
+use Rattle.desk.specs.Machine.{markOf, withMark, withHeld, labelOf, taskOf}
 use Rattle.desk.specs.Bring.{swept, labelled, reach, applyPassage, sweepOf}
 use Rattle.promises.specs.Demand.{graph}
-use Rattle.promises.specs.View.{markOf, viaOf, view, between, during, applied-none, applied-same, midway-at, midway-other, Sure, Midway, GoodAt, StepAt, good-on}
+use Rattle.promises.specs.View.{viaOf, view, between, during, applied-none, applied-same, midway-at, midway-other, Sure, Midway, GoodAt, StepAt, good-on}
 use Rattle.promises.specs.TakeMoves.{seen-in}
 
 -- the test of a passage, by what it says of the far end

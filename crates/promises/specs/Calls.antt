@@ -14,14 +14,13 @@ use Rattle.dealing.specs.Decision.{decision}
 use Rattle.desk.specs.declared.Machine.{Machine}
 use Rattle.desk.specs.declared.Answer.{Answer}
 use Rattle.desk.specs.Reply.{refused}
-use Rattle.desk.specs.Machine.{heldBy, boardOf}
+use Rattle.desk.specs.Machine.{markOf, heldBy, boardOf}
 use Rattle.desk.specs.Fits.{fits}
 use Rattle.desk.specs.Admission.{admitted}
 use Rattle.desk.specs.Take.{act, takeStep, takeOf}
 use Rattle.desk.specs.Bring.{sweepOf, finish, bringStep, bringOf}
 use Rattle.desk.specs.Calls.{Event, take, bring, call}
 use Rattle.desk.specs.Laws.{Admitted, fitting}
-use Rattle.promises.specs.View.{markOf}
 use Rattle.promises.specs.Progress.{Chosen, chosen}
 
 module _ (passages estimates : List ℕ) (m : Machine) (P : Answer → Type 0) where
@@ -42,7 +41,7 @@ module _ (passages estimates : List ℕ) (m : Machine) (P : Answer → Type 0) w
 
   -- what holds of a refusal, of each step of Take, and of a Bring
   pub call-either : ((number : ℕ) → number ≤ 11 → P (refused m number))
-      → ((worker : ℕ) → Admitted m passages estimates worker → heldBy m worker ≡ none → (d : Decision) → Chosen (m .goal) (boardOf m estimates) d → P (act m worker d))
+      → ((worker : ℕ) → Admitted m passages estimates worker → heldBy m worker ≡ none → (d : Decision) → Chosen (m .goal) (m .pull) (boardOf m estimates) d → P (act m worker d))
       → ((worker : ℕ) → Admitted m passages estimates worker → markOf m (heldBy m worker) ≡ out → P (finish worker (heldBy m worker) (sweepOf m passages (heldBy m worker))))
       → (e : Event) → P (call passages estimates m e)
   unfolding takeOf takeStep bringOf bringStep

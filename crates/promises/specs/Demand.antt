@@ -1,24 +1,26 @@
 -- Demand 3, as statements about the desk's definitions: runs from an accepted opening, routes, and what is promised of them.
 use mathlib.Core.Path.{_≡_}
-use mathlib.Core.Bool.{cond, true}
+use mathlib.Core.Bool.{cond, true, false}
 use mathlib.Core.Logic.{_≢_}
 use mathlib.Core.List.{List, [], _∷_, _++_, map}
 use Prim.Native.Nat.{ℕ, _+_, _-_, _*_, _≤_, _<_}
 use lib.ListN.{length}
 use lib.Dec.{eqb}
 use Rattle.laws.specs.Part.{overlaid}
-use Rattle.rule.specs.Task.{passageCount, near, far, cost}
+use Rattle.rule.specs.Task.{passageCount, near, far, cost, estimate}
+use Rattle.rule.specs.Marks.{waiting, out, isLive}
 use Rattle.argument.specs.Route.{Graph, Walk, costOf}
 use Rattle.checks.specs.Opening.{Task}
+use Rattle.dealing.specs.Board.{key, dependsOn}
 use Rattle.desk.specs.declared.Machine.{Machine}
 use Rattle.desk.specs.declared.Reply.{Reply}
-use Rattle.desk.specs.declared.Reply.the-variants.{Opened, Took, Brought, Found, NoPath, Wait, Read, Refused}
+use Rattle.desk.specs.declared.Reply.the-variants.{Opened, Found, NoPath, Read, Refused}
 use Rattle.desk.specs.declared.Answer.{Answer}
-use Rattle.desk.specs.Machine.{labelOf}
-use Rattle.desk.specs.Reply.{answer}
+use Rattle.desk.specs.Machine.{markOf, labelOf, boardOf}
+use Rattle.desk.specs.Reply.{answer, took, when}
 use Rattle.desk.specs.Fits.{fits}
 use Rattle.desk.specs.Opening.{openingOf}
-use Rattle.desk.specs.Path.{Reading, pathOf}
+use Rattle.desk.specs.Path.{pathOf}
 use Rattle.desk.specs.Calls.{Event, call, replies, after}
 
 -- "a task that opening accepts"
@@ -52,14 +54,7 @@ along t way = t .start ∷ map (far (t .passages)) way
 
 -- how often a state is dealt in a list of replies
 abbrev pub deals : ℕ → Reply → ℕ
-deals s Opened = 0
-deals s (Took x) = cond (eqb x s) 1 0
-deals s (Brought many) = 0
-deals s (Found c) = 0
-deals s NoPath = 0
-deals s Wait = 0
-deals s (Read many) = 0
-deals s (Refused number) = 0
+deals s r = when took r (λ x. cond (eqb x s) 1 0) 0
 
 unfoldable pub timesDealt : ℕ → List Reply → ℕ
 timesDealt s [] = 0
@@ -94,3 +89,29 @@ pub record Kept (t : Task) : Type 0 where
   -- the goal is never dealt, and the start stays at label 0
   pub aim : (events : List Event) → timesDealt (t .goal) (said t events) ≡ 0
   pub root : (events : List Event) → labelOf (reached t events) (t .start) ≡ 0
+
+-- Order 1, who a Wait is for: of every machine, whatever is lent.
+-- s is the open state with the smallest key, "lowest number among equal keys"
+pub record Foremost (m : Machine) (estimates : List ℕ) (s : ℕ) : Type 0 where
+  pub state : s < m .n
+  pub opened : markOf m s ≡ waiting
+  pub smallest : (x : ℕ) → x < m .n → markOf m x ≡ waiting → key (m .goal) (m .pull) (boardOf m estimates) s ≤ key (m .goal) (m .pull) (boardOf m estimates) x
+  pub lowest : (x : ℕ) → x < s → markOf m x ≡ waiting → key (m .goal) (m .pull) (boardOf m estimates) s < key (m .goal) (m .pull) (boardOf m estimates) x
+
+-- t is the lowest-numbered state that s depends on, and another than s: 100 × (label s − label t) is above E × h(t,s)
+pub record HeldUp (m : Machine) (estimates : List ℕ) (s t : ℕ) : Type 0 where
+  pub other : t ≢ s
+  pub behind : 100 * labelOf m t + m .excess * estimate estimates (m .n) t s < 100 * labelOf m s
+  pub lowest : (x : ℕ) → x < t → dependsOn (boardOf m estimates) s x ≡ false
+
+-- what Wait says by naming t
+pub record WaitsFor (m : Machine) (estimates : List ℕ) (t : ℕ) : Type 0 where
+  -- the state that it names is open or out
+  pub state : t < m .n
+  pub live : isLive (markOf m t) ≡ true
+  -- a Wait is never "no way through": something is out
+  pub busy : (x : ℕ) × (x < m .n) × (markOf m x ≡ out)
+  -- where something is open, the smallest-key open state depends on the state named
+  pub held : (x : ℕ) → x < m .n → markOf m x ≡ waiting → (s : ℕ) × Foremost m estimates s × HeldUp m estimates s t
+  -- where nothing is open, the state named is the lowest that is out
+  pub quiet : ((x : ℕ) → x < m .n → markOf m x ≢ waiting) → (markOf m t ≡ out) × ((x : ℕ) → x < t → markOf m x ≢ out)

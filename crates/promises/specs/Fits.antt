@@ -12,6 +12,7 @@ use lib.ListN.{getD, replicate, length-set, length-replicate, getD-replicate}
 use lib.Seq.{getD-set-same, getD-set-other}
 use borrow.Author.Tests.{eq-eqb, ne-eqb, lt-ltb, le-leb, lt-leb}
 use Rattle.laws.specs.Truth.{and-both}
+use Rattle.laws.specs.All.{all-of}
 use Rattle.laws.specs.Count.{count, count-max, count-short}
 use Rattle.rule.specs.Task.{passageCount, far}
 use Rattle.rule.specs.Marks.{out, none, isMark}
@@ -24,16 +25,15 @@ use Rattle.dealing.specs.Board.{safe}
 use Rattle.dealing.specs.declared.Decision.{Decision}
 use Rattle.dealing.specs.declared.Decision.the-variants.{Found, NoPath, Deal, Stuck, Wait}
 use Rattle.desk.specs.declared.Machine.{Machine}
-use Rattle.desk.specs.Machine.{labelOf, heldBy, taskOf, boardOf}
+use Rattle.desk.specs.Machine.{markOf, labelOf, heldBy, taskOf, boardOf}
 use Rattle.desk.specs.Fits.{fits}
 use Rattle.desk.specs.Opening.{openedMachine}
 use Rattle.desk.specs.Take.{dealt, act}
 use Rattle.desk.specs.Bring.{sweepOf, finish}
 use Rattle.desk.specs.Calls.{Event, call}
 use Rattle.promises.specs.Demand.{graph}
-use Rattle.promises.specs.Searches.{all-of}
 use Rattle.promises.specs.Accepted.{Sound}
-use Rattle.promises.specs.View.{markOf, between, applied-none, Sure}
+use Rattle.promises.specs.View.{between, applied-none, Sure}
 use Rattle.promises.specs.Progress.{safe-is-open, Chosen}
 use Rattle.promises.specs.TakeMoves.{dealt-now, dealt-else, act-sure}
 use Rattle.promises.specs.BringMoves.{lowered, Passing, lowered-now, lowered-else, label-else, free, Keeps, sweep-keeps, finishedBy, finished-now, finished-else, finished-sure}
@@ -110,7 +110,7 @@ module _ {passages estimates : List ℕ} {m : Machine} (z : Whole passages estim
       (λ x d. getD-set-other (m .held) worker x s 0 d) e (z .sure .good .frontier .inside s (omega arith)) (omega arith) mine
       (dealt-now (z .sure) worker s k) (dealt-else (z .sure) worker s k)
 
-  act-whole : (d : Decision) → Chosen (m .goal) (boardOf m estimates) d → Whole passages estimates (act m worker d .machine)
+  act-whole : (d : Decision) → Chosen (m .goal) (m .pull) (boardOf m estimates) d → Whole passages estimates (act m worker d .machine)
   act-whole (Found cost) k = record { sure = act-sure (z .sure) worker (Found cost) k; phase = omega arith; blank = z .blank; hold = z .hold }
   act-whole NoPath k = record { sure = act-sure (z .sure) worker NoPath k; phase = omega arith; blank = z .blank; hold = z .hold }
   act-whole (Deal s) k = record {
@@ -120,7 +120,7 @@ module _ {passages estimates : List ℕ} {m : Machine} (z : Whole passages estim
     hold = deal-held s (k .0);
   }
   act-whole Stuck k = z
-  act-whole Wait k = z
+  act-whole (Wait s) k = z
 
 -- what a pass over the state p that the worker holds keeps besides the invariant
 record Carrying (worker p : ℕ) (m : Machine) : Type 0 where

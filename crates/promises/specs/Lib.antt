@@ -1,6 +1,5 @@
 -- Demand 3 and what goes with it. `Demand` has the statements and is what a reader has to believe; the other files prove them.
 pub mod Demand
-pub mod Searches
 pub mod Accepted
 pub mod View
 pub mod Progress
@@ -13,4 +12,5 @@ pub mod Reading
 pub mod Once
 pub mod Runs
 pub mod Replies
+pub mod Waiting
 pub mod Theorem

@@ -13,12 +13,12 @@ use Rattle.dealing.specs.declared.Decision.{Decision}
 use Rattle.dealing.specs.declared.Decision.the-variants.{Found, NoPath, Deal, Stuck, Wait}
 use Rattle.desk.specs.declared.Machine.{Machine}
 use Rattle.desk.specs.declared.Answer.{Answer}
-use Rattle.desk.specs.Machine.{labelOf, heldBy, boardOf}
+use Rattle.desk.specs.Machine.{markOf, labelOf, heldBy, boardOf}
 use Rattle.desk.specs.Take.{dealt, act}
 use Rattle.desk.specs.Bring.{sweepOf, finish}
 use Rattle.desk.specs.Calls.{Event, call, replies, after}
 use Rattle.promises.specs.Demand.{deals, timesDealt}
-use Rattle.promises.specs.View.{markOf, Sure}
+use Rattle.promises.specs.View.{Sure}
 use Rattle.promises.specs.Progress.{safe-is-open, Chosen}
 use Rattle.promises.specs.TakeMoves.{dealt-now, dealt-else}
 use Rattle.promises.specs.BringMoves.{Passing, lowered-else, free, Keeps, sweep-keeps, finishedBy, finished-now, finished-else}
@@ -47,7 +47,7 @@ abbrev Once : Machine → ℕ → Answer → Type 0
 Once m s a = deals s (a .reply) + gone m s ≤ gone (a .machine) s
 
 module _ {passages estimates : List ℕ} {m : Machine} (z : Sure passages estimates m) (s : ℕ) where
-  act-once : (worker : ℕ) (d : Decision) → Chosen (m .goal) (boardOf m estimates) d → Once m s (act m worker d)
+  act-once : (worker : ℕ) (d : Decision) → Chosen (m .goal) (m .pull) (boardOf m estimates) d → Once m s (act m worker d)
   act-once worker (Found cost) k = omega arith
   act-once worker NoPath k = omega arith
   act-once worker (Deal x) k =
@@ -58,7 +58,7 @@ module _ {passages estimates : List ℕ} {m : Machine} (z : Sure passages estima
       (λ y d. rw (ne-eqb x y (λ q. d (sym q)), dealt-else z worker x (k .0) y d) (omega arith))
       s
   act-once worker Stuck k = omega arith
-  act-once worker Wait k = omega arith
+  act-once worker (Wait s) k = omega arith
 
   -- s is dealt before in m′ if it is in m
   abbrev Stays : Machine → Type 0

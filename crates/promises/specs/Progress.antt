@@ -9,16 +9,15 @@ use native.Mathlib.Omega.{arith}
 use lib.Dec.{ltb, leb, eqb}
 use borrow.Author.Tests.{ltb-true, ltb-false, leb-true, eqb-true, ne-eqb, le-leb, not-false}
 use Rattle.laws.specs.Truth.{and-left, and-right, or-either}
-use Rattle.laws.specs.First.{first-before}
-use Rattle.laws.specs.Least.{least}
+use Rattle.laws.specs.First.{first-before, first-none, any-none, any-some}
+use Rattle.laws.specs.Least.{least, IsLeast, least-is}
 use Rattle.rule.specs.Marks.{waiting, isOpen, isOut, isLive}
 use Rattle.rule.specs.Rule.{holdsBack, independent-is}
 use Rattle.dealing.specs.Board.{Board, markAt, labelAt, h, dependsOn, firstDependence, safe, key, choice, anyOpen, anyOut}
 use Rattle.dealing.specs.declared.Decision.{Decision}
 use Rattle.dealing.specs.declared.Decision.the-variants.{Found, NoPath, Deal, Stuck, Wait}
-use Rattle.dealing.specs.Decision.{decision}
+use Rattle.dealing.specs.Decision.{waitedFor, decision}
 use Rattle.dealing.specs.Laws.{safe-open, depends-self}
-use Rattle.promises.specs.Searches.{first-none, any-none, any-some, IsLeast, least-is}
 
 -- s is independent of every other live state
 abbrev pub Free : Board → ℕ → Type 0
@@ -78,12 +77,12 @@ module _ (b : Board) where
           (s, k, free-safe b s (eqb-true _ _ y) (λ u i d a. omega (arith, f u i (opens u i a))))
 
 -- what a decision says
-abbrev pub Chosen : ℕ → Board → Decision → Type 0
-Chosen goal b (Found cost) = (safe b goal ≡ true) × (cost ≡ labelAt b goal)
-Chosen goal b NoPath = (u : ℕ) → u < b .n → isLive (markAt b u) ≡ false
-Chosen goal b (Deal s) = (safe b s ≡ true) × (s ≢ goal)
-Chosen goal b Stuck = ⊥
-Chosen goal b Wait = Unit {0}
+abbrev pub Chosen : ℕ → ℕ → Board → Decision → Type 0
+Chosen goal pull b (Found cost) = (safe b goal ≡ true) × (cost ≡ labelAt b goal)
+Chosen goal pull b NoPath = (u : ℕ) → u < b .n → isLive (markAt b u) ≡ false
+Chosen goal pull b (Deal s) = (safe b s ≡ true) × (s ≢ goal)
+Chosen goal pull b Stuck = ⊥
+Chosen goal pull b (Wait s) = (anyOut b ≡ true) × ((x : ℕ) → x < b .n → safe b x ≡ false) × (s ≡ waitedFor goal pull b)
 
 module _ (goal pull : ℕ) (b : Board) where
   choice-is : IsLeast (safe b) (key goal pull b) (b .n) (b .n) (choice goal pull b)
@@ -97,7 +96,7 @@ module _ (goal pull : ℕ) (b : Board) where
   choice-none : ltb (choice goal pull b) (b .n) ≡ false → (s : ℕ) → s < b .n → safe b s ≡ false
   choice-none e = let l = ltb-false (choice goal pull b) (b .n) e in ⊎-elim (λ w. w .1) (λ w. absurd (omega (arith, w .0))) choice-is
 
-  pub chosen : Chosen goal b (decision goal pull b)
+  pub chosen : Chosen goal pull b (decision goal pull b)
   unfolding decision anyOpen anyOut
   chosen = go (safe b goal) refl (anyOpen b) refl (anyOut b) refl (ltb (choice goal pull b) (b .n)) refl
     where
@@ -105,11 +104,11 @@ module _ (goal pull : ℕ) (b : Board) where
       deal e f = (f, λ q. true≢false (sym f ∙ ap (safe b) q ∙ e))
 
       go : (found : Bool) → safe b goal ≡ found → (some : Bool) → anyOpen b ≡ some → (busy : Bool) → anyOut b ≡ busy → (deals : Bool) → ltb (choice goal pull b) (b .n) ≡ deals
-          → Chosen goal b (cond found (Found (labelAt b goal)) (cond (not some && not busy) NoPath (cond deals (Deal (choice goal pull b)) (cond (not busy) Stuck Wait))))
+          → Chosen goal pull b (cond found (Found (labelAt b goal)) (cond (not some && not busy) NoPath (cond deals (Deal (choice goal pull b)) (cond (not busy) Stuck (Wait (waitedFor goal pull b))))))
       go true e some o busy q deals d = (e, refl)
       go false e false o false q deals d = λ u l. rw (any-none (λ u. isOpen (markAt b u)) (b .n) o u l, any-none (λ u. isOut (markAt b u)) (b .n) q u l)
       go false e false o true q true d = deal e (choice-safe d)
-      go false e false o true q false d = tt
+      go false e false o true q false d = (q, choice-none d, refl)
       go false e true o busy q true d = deal e (choice-safe d)
       go false e true o false q false d = let (s, l, f) = some-safe b q o in true≢false (sym f ∙ choice-none d s l)
-      go false e true o true q false d = tt
+      go false e true o true q false d = (q, choice-none d, refl)

@@ -15,12 +15,12 @@ use Rattle.dealing.specs.declared.Decision.the-variants.{Found as FoundAt, NoPa
 use Rattle.desk.specs.declared.Machine.{Machine}
 use Rattle.desk.specs.declared.Reply.{Reply}
 use Rattle.desk.specs.declared.Reply.the-variants.{Opened, Took, Brought, Found, NoPath, Wait, Read, Refused}
-use Rattle.desk.specs.Machine.{withPhase, labelOf, taskOf, boardOf}
+use Rattle.desk.specs.Machine.{markOf, withPhase, labelOf, taskOf, boardOf}
 use Rattle.desk.specs.Take.{act}
 use Rattle.desk.specs.Calls.{Event, call}
 use Rattle.promises.specs.Demand.{graph, IsRoute, routeCost, PathRight}
 use Rattle.promises.specs.Accepted.{Sound}
-use Rattle.promises.specs.View.{markOf, between, applied}
+use Rattle.promises.specs.View.{between, applied}
 use Rattle.promises.specs.Progress.{safe-is-open, Chosen}
 use Rattle.promises.specs.TakeMoves.{live-is, safe-allowed}
 use Rattle.promises.specs.Calls.{call-either}
@@ -34,7 +34,7 @@ Says t m (Took s) = Unit {0}
 Says t m (Brought many) = Unit {0}
 Says t m (Found c) = (m .phase ≡ 1) × PathRight t m c
 Says t m NoPath = (way : List ℕ) → IsRoute t way → ⊥
-Says t m Wait = Unit {0}
+Says t m (Wait s) = Unit {0}
 Says t m (Read many) = Unit {0}
 Says t m (Refused number) = number ≢ 12
 
@@ -69,19 +69,19 @@ module _ {passages estimates : List ℕ} {m : Machine} (z : Whole passages estim
         }
 
   -- NoPath: with nothing live no route reaches the goal
-  none-right : Chosen (m .goal) (boardOf m estimates) NoPathLeft → (way : List ℕ) → IsRoute t way → ⊥
+  none-right : Chosen (m .goal) (m .pull) (boardOf m estimates) NoPathLeft → (way : List ℕ) → IsRoute t way → ⊥
   none-right k way w =
       no-path (graph t) (m .n) (m .excess) (estimate estimates (m .n)) (sound .consistent) (m .start) (m .goal) (passageCount passages) (between passages m) (z .sure .good)
       (λ x l d. true≢false (sym (live-is (markOf m x) l d (z .sure .marks x)) ∙ k x (z .sure .good .frontier .inside x l)))
       (costOf (graph t) way) (walk-route (graph t) (m .start) way (m .goal) w)
 
-  act-says : (worker : ℕ) (d : Decision) → Chosen (m .goal) (boardOf m estimates) d → Whole passages estimates (act m worker d .machine)
+  act-says : (worker : ℕ) (d : Decision) → Chosen (m .goal) (m .pull) (boardOf m estimates) d → Whole passages estimates (act m worker d .machine)
       → Says t (act m worker d .machine) (act m worker d .reply)
   act-says worker (FoundAt cost) k y = (refl, subst⁻¹ (PathRight t (withPhase m 1)) (k .1) (found-right (k .0) y))
   act-says worker NoPathLeft k y = none-right k
   act-says worker (Deal s) k y = tt
   act-says worker Stuck k y = absurd k
-  act-says worker WaitOn k y = tt
+  act-says worker (WaitOn s) k y = tt
 
   pub call-says : (e : Event) → Says (taskOf m passages estimates) (call passages estimates m e .machine) (call passages estimates m e .reply)
   call-says e =

@@ -20,7 +20,7 @@ module _ {passages estimates : List ℕ} where
   act-task m worker NoPath = refl
   act-task m worker (Deal s) = refl
   act-task m worker Stuck = refl
-  act-task m worker Wait = refl
+  act-task m worker (Wait s) = refl
 
   call-task : {m : Machine} → Whole passages estimates m → (e : Event) → taskOf (call passages estimates m e .machine) passages estimates ≡ taskOf m passages estimates
   call-task {m} z =

@@ -19,9 +19,9 @@ use Rattle.dealing.specs.Board.{safe}
 use Rattle.dealing.specs.declared.Decision.{Decision}
 use Rattle.dealing.specs.declared.Decision.the-variants.{Found, NoPath, Deal, Stuck, Wait}
 use Rattle.desk.specs.declared.Machine.{Machine}
-use Rattle.desk.specs.Machine.{withPhase, labelOf, boardOf}
+use Rattle.desk.specs.Machine.{markOf, withPhase, labelOf, boardOf}
 use Rattle.desk.specs.Take.{dealt, act}
-use Rattle.promises.specs.View.{markOf, between, applied-none, applied-same, SureAt, Sure, StepAt, good-on}
+use Rattle.promises.specs.View.{between, applied-none, applied-same, SureAt, Sure, StepAt, good-on}
 use Rattle.promises.specs.Progress.{safe-is-open, safe-is-free, Chosen}
 
 -- of the marks that there are, all but unseen and finished are live
@@ -93,9 +93,9 @@ module _ {passages estimates : List ℕ} {m : Machine} (z : Sure passages estima
     good = z .good;
   }
 
-  pub act-sure : (worker : ℕ) (d : Decision) → Chosen (m .goal) (boardOf m estimates) d → Sure passages estimates (act m worker d .machine)
+  pub act-sure : (worker : ℕ) (d : Decision) → Chosen (m .goal) (m .pull) (boardOf m estimates) d → Sure passages estimates (act m worker d .machine)
   act-sure worker (Found cost) k = phase-sure 1
   act-sure worker NoPath k = phase-sure 2
   act-sure worker (Deal s) k = dealt-sure worker s (k .0) (k .1)
   act-sure worker Stuck k = z
-  act-sure worker Wait k = z
+  act-sure worker (Wait s) k = z

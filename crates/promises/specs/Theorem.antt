@@ -9,12 +9,11 @@ use Rattle.checks.specs.Opening.{Task}
 use Rattle.desk.specs.declared.Machine.{Machine}
 use Rattle.desk.specs.declared.Reply.{Reply}
 use Rattle.desk.specs.declared.Reply.the-variants.{Found, NoPath, Refused}
-use Rattle.desk.specs.Machine.{labelOf, taskOf}
+use Rattle.desk.specs.Machine.{markOf, labelOf, taskOf}
 use Rattle.desk.specs.Opening.{openingOf, openedMachine}
 use Rattle.desk.specs.Calls.{Event}
 use Rattle.promises.specs.Demand.{Accepted, reached, said, next, timesDealt, PathRight, Demand3, Kept}
 use Rattle.promises.specs.Accepted.{sound, accepted-fault, accepted-machine}
-use Rattle.promises.specs.View.{markOf}
 use Rattle.promises.specs.Fits.{Whole, opened-whole, whole-fits}
 use Rattle.promises.specs.Once.{gone, gone-no, run-once}
 use Rattle.promises.specs.Runs.{after-whole, after-task, after-on, after-still}

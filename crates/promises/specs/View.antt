@@ -13,12 +13,9 @@ use Rattle.rule.specs.Marks.{finished}
 use Rattle.argument.specs.View.{View}
 use Rattle.argument.specs.Good.{Good, Step, good-step}
 use Rattle.desk.specs.declared.Machine.{Machine}
-use Rattle.desk.specs.Machine.{labelOf, taskOf}
+use Rattle.desk.specs.Machine.{markOf, labelOf, taskOf}
 use Rattle.promises.specs.Demand.{graph}
 use Rattle.promises.specs.Accepted.{Sound}
-
-abbrev pub markOf : Machine → ℕ → ℕ
-markOf m s = getD (m .mark) s 0
 
 abbrev pub viaOf : Machine → ℕ → ℕ
 viaOf m s = getD (m .via) s 0

@@ -1,14 +1,20 @@
 -- Text written piece by piece, and the places that it takes.
-use mathlib.Core.Path.{_≡_}
-use mathlib.Core.Bool.{cond}
+use mathlib.Core.Path.{_≡_, refl, subst, _∙_}
+use mathlib.Core.Bool.{false, cond, not}
 use mathlib.Core.List.{List}
 use Prim.Native.Nat.{ℕ, _+_, _≤_}
+use types.Run.{OneOf, miss}
+use mir.Val.{hasKey}
+use denote.Enum.Declared.{tagOf}
 use lib.ListN.{length}
-use lib.Dec.{eqb}
+use lib.Dec.{T, eqb}
+use borrow.Author.Tests.{ne-eqb}
 use Rattle.laws.specs.Part.{overlaid}
 use Rattle.desk.specs.declared.Machine.{Machine}
 use Rattle.desk.specs.declared.Reply.{Reply}
+use Rattle.desk.proofs.Reply.{the-type}
 use Rattle.desk.specs.declared.Reply.the-variants.{Opened, Took, Brought, Found, NoPath, Wait, Read, Refused}
+use Rattle.desk.specs.Reply.{caseOf, when, found, read}
 use Rattle.desk.specs.Calls.{call}
 use Rattle.report.specs.declared.Told.{Told}
 use Rattle.report.specs.Line.{spoken}
@@ -19,27 +25,28 @@ pub record Put (at : ℕ) (xs l₀ l : List ℕ) (r : ℕ) : Type 0 where
   pub done : l ≡ overlaid at xs l₀
   pub next : r ≡ at + length xs
 
+-- the tag that a match on a reply goes by is the reply's case
+tag-case : (r : Reply) → tagOf the-type r ≡ caseOf r
+tag-case Opened = refl
+tag-case (Took s) = refl
+tag-case (Brought many) = refl
+tag-case (Found cost) = refl
+tag-case NoPath = refl
+tag-case (Wait s) = refl
+tag-case (Read many) = refl
+tag-case (Refused number) = refl
+
+-- a match that is left with the tags `others` is left with a reply of another case
+pub other-case : (others : List ℕ) (case : ℕ) (r : Reply) → T (not (hasKey others case)) → OneOf others (tagOf the-type r) → eqb (caseOf r) case ≡ false
+other-case others case r h o = ne-eqb (caseOf r) case (λ e. miss others case h (subst (OneOf others) (tag-case r ∙ e) o))
+
 -- a path that was read fits the 256 places that it was read into
 abbrev pub Drawn : Reply → Type 0
-Drawn Opened = Unit {0}
-Drawn (Took s) = Unit {0}
-Drawn (Brought many) = Unit {0}
-Drawn (Found cost) = Unit {0}
-Drawn NoPath = Unit {0}
-Drawn Wait = Unit {0}
-Drawn (Read many) = many ≤ 256
-Drawn (Refused number) = Unit {0}
+Drawn reply = when read reply (λ many. many) 0 ≤ 256
 
 -- the places that what follows a reply's line may take: a path line, after Found
 abbrev pub reserve : Reply → ℕ
-reserve Opened = 0
-reserve (Took s) = 0
-reserve (Brought many) = 0
-reserve (Found cost) = 8192
-reserve NoPath = 0
-reserve Wait = 0
-reserve (Read many) = 0
-reserve (Refused number) = 0
+reserve reply = when found reply (λ _. 8192) 0
 
 -- the places kept back for a path line while none was printed: Found comes once
 abbrev pub spare : Machine → ℕ

@@ -5,6 +5,7 @@ use lib.ListN.{getD, replicate}
 use Rattle.desk.specs.declared.Reply.{Reply}
 use Rattle.desk.specs.declared.Reply.the-variants.{Opened, Took, Brought, Found, NoPath, Wait, Read, Refused}
 use Rattle.desk.specs.declared.Answer.{Answer}
+use Rattle.desk.specs.Reply.{when, found, read}
 use Rattle.desk.specs.Path.{Reading, pathOf}
 use Rattle.report.specs.Decimal.{decimal}
 
@@ -57,14 +58,14 @@ line1 word a = word ++ (blank ∷ (decimal a ++ (end ∷ [])))
 unfoldable pub line2 : List ℕ → ℕ → ℕ → List ℕ
 line2 word a b = word ++ (blank ∷ (decimal a ++ (blank ∷ (decimal b ++ (end ∷ [])))))
 
--- "`took` state, `brought` count, `found` cost, `refused` number, `wait` and `nopath` none"
+-- "`took` state, `brought` count, `found` cost, `refused` number, `wait` and `nopath` none"; since order 1 `wait` has the state waited for
 abbrev pub lineOf : ℕ → Reply → List ℕ
 lineOf worker Opened = []
 lineOf worker (Took s) = line2 word-took worker s
 lineOf worker (Brought many) = line2 word-brought worker many
 lineOf worker (Found cost) = line2 word-found worker cost
 lineOf worker NoPath = line1 word-nopath worker
-lineOf worker Wait = line1 word-wait worker
+lineOf worker (Wait s) = line2 word-wait worker s
 lineOf worker (Read many) = []
 lineOf worker (Refused number) = line2 word-refused worker number
 
@@ -75,28 +76,14 @@ statesText states (suc i) = statesText states i ++ (blank ∷ decimal (getD stat
 
 -- a `path` line with the states that path reading wrote
 abbrev pub readText : List ℕ → Reply → List ℕ
-readText states Opened = []
-readText states (Took s) = []
-readText states (Brought many) = []
-readText states (Found cost) = []
-readText states NoPath = []
-readText states Wait = []
-readText states (Read many) = word-path ++ (statesText states many ++ (end ∷ []))
-readText states (Refused number) = []
+readText states r = when read r (λ many. word-path ++ (statesText states many ++ (end ∷ []))) []
 
 abbrev pub pathText : Reading → List ℕ
 pathText r = readText (r .buffer) (r .given .reply)
 
 -- "After `found` comes a `path` line with the states."
 abbrev pub afterReply : Reply → Reading → List ℕ
-afterReply Opened r = []
-afterReply (Took s) r = []
-afterReply (Brought many) r = []
-afterReply (Found cost) r = pathText r
-afterReply NoPath r = []
-afterReply Wait r = []
-afterReply (Read many) r = []
-afterReply (Refused number) r = []
+afterReply reply r = when found reply (λ _. pathText r) []
 
 -- all that is printed for one answer
 unfoldable pub spoken : List ℕ → List ℕ → ℕ → Answer → List ℕ

@@ -19,8 +19,7 @@ use Rattle.dealing.specs.Decision.{decision}
 use Rattle.trail.specs.Trail.{pathLength}
 use Rattle.desk.specs.declared.Machine.{Machine}
 use Rattle.desk.specs.declared.Swept.{Swept}
-use Rattle.desk.specs.declared.Reply.{Reply}
-use Rattle.desk.specs.declared.Reply.the-variants.{Opened, Took, Brought, Found, NoPath, Wait, Read as ReadOut, Refused}
+use Rattle.desk.specs.declared.Reply.the-variants.{Found}
 use Rattle.desk.specs.declared.Answer.{Answer}
 use Rattle.desk.specs.Machine.{heldBy, labelOf, trailOf, boardOf}
 use Rattle.desk.specs.Reply.{refusalOf}
@@ -29,7 +28,7 @@ use Rattle.desk.specs.Admission.{admitted}
 use Rattle.desk.specs.Take.{act, takeStep, takeOf}
 use Rattle.desk.specs.Bring.{swept, labelled, applyPassage, sweepOf, bringStep, bringOf}
 use Rattle.desk.specs.Opening.{openingOf}
-use Rattle.desk.specs.Path.{Reading, pathOf}
+use Rattle.desk.specs.Path.{Reading, unread, pathOf}
 use Rattle.desk.specs.Calls.{Event, take as takes, bring as brings, call}
 use Rattle.taskfile.specs.declared.Contents.{Contents}
 use Rattle.taskfile.specs.declared.Outcome.{Outcome}
@@ -72,7 +71,7 @@ act-spends m worker (FoundAt cost) e = rw (eq-eqb (m .phase) 0 e) (omega arith)
 act-spends m worker NoPathLeft e = omega arith
 act-spends m worker (Deal s) e = omega arith
 act-spends m worker Stuck e = omega arith
-act-spends m worker WaitOn e = omega arith
+act-spends m worker (WaitOn s) e = omega arith
 
 bring-spends : (m : Machine) (passages : List ℕ) (worker : ℕ) → Spends m (bringStep m passages worker)
 unfolding bringStep
@@ -96,25 +95,17 @@ call-spends passages estimates m (brings worker) = admitted-spends m passages es
 pub path-drawn : (m : Machine) (passages estimates : List ℕ) → Drawn (pathOf m passages estimates (replicate 256 0) 0 .given .reply)
 unfolding pathOf
 path-drawn m passages estimates =
-    provided-either P (fits m passages estimates) _ _ tt
-    (λ _. provided-either P (eqb (m .phase) 1) _ _ tt
-    (λ _. provided-either P (not (eqb (pathLength (trailOf m passages)) 0)) _ _ tt
-    (λ _. provided-either P (leb (pathLength (trailOf m passages)) (length {A = ℕ} (replicate 256 0) - 0)) _ _ tt
+    provided-either P (fits m passages estimates) _ _ (none 8)
+    (λ _. provided-either P (eqb (m .phase) 1) _ _ (none 13)
+    (λ _. provided-either P (not (eqb (pathLength (trailOf m passages)) 0)) _ _ (none 14)
+    (λ _. provided-either P (leb (pathLength (trailOf m passages)) (length {A = ℕ} (replicate 256 0) - 0)) _ _ (none 15)
     (λ e. omega (arith, leb-true (pathLength (trailOf m passages)) (length {A = ℕ} (replicate 256 0) - 0) e)))))
   where
     P : Reading → Type 0
     P r = Drawn (r .given .reply)
 
--- nothing is printed after a reply that isn't Found
-pub after-none : (reply : Reply) (r : Reading) (at : ℕ) (l : List ℕ) → ((cost : ℕ) → reply ≡ Found cost → ⊥) → Put at (afterReply reply r) l l at × (at ≤ at + reserve reply)
-after-none Opened r at l n = (put-none at l, omega arith)
-after-none (Took s) r at l n = (put-none at l, omega arith)
-after-none (Brought many) r at l n = (put-none at l, omega arith)
-after-none (Found cost) r at l n = absurd (n cost refl)
-after-none NoPath r at l n = (put-none at l, omega arith)
-after-none Wait r at l n = (put-none at l, omega arith)
-after-none (ReadOut many) r at l n = (put-none at l, omega arith)
-after-none (Refused number) r at l n = (put-none at l, omega arith)
+    none : (number : ℕ) → P (unread m (replicate 256 0) number)
+    none number = omega arith
 
 -- a call's answer: the places that it spends, and its two lines in a row
 module _ (m : Machine) (passages estimates : List ℕ) (event : ℕ) (a : Answer) (e : a ≡ call passages estimates m (eventOf event)) where

@@ -1,6 +1,6 @@
 -- What is printed for a whole file: a line for each call, or only the fault, or only the refused opening.
 use mathlib.Core.Bool.{cond}
-use mathlib.Core.List.{List, [], _∷_, _++_}
+use mathlib.Core.List.{List, [], _++_}
 use Prim.Native.Nat.{ℕ, _+_, _*_, _/_, _%_}
 use lib.ListN.{length, getD, replicate, take}
 use lib.Dec.{leb, eqb}
@@ -9,7 +9,6 @@ use Rattle.laws.specs.Fold.{fold}
 use Rattle.laws.specs.Part.{overlaid}
 use Rattle.checks.specs.Opening.{task}
 use Rattle.desk.specs.declared.Machine.{Machine}
-use Rattle.desk.specs.declared.Answer.{Answer}
 use Rattle.desk.specs.Reply.{refusalOf}
 use Rattle.desk.specs.Opening.{openingOf}
 use Rattle.desk.specs.Calls.{Event, take as takes, bring as brings, call}

@@ -43,7 +43,7 @@ pub fn put_reply(out: &mut [u8], at: usize, worker: u64, reply: Reply) -> usize
         Reply::Brought(many) => put_line2(out, at, b"brought", worker, many as u64),
         Reply::Found(cost) => put_line2(out, at, b"found", worker, cost as u64),
         Reply::NoPath => put_line1(out, at, b"nopath", worker),
-        Reply::Wait => put_line1(out, at, b"wait", worker),
+        Reply::Wait(s) => put_line2(out, at, b"wait", worker, s as u64),
         Reply::Read(_) => at,
         Reply::Refused(number) => put_line2(out, at, b"refused", worker, number as u64),
     }

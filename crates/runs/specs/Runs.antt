@@ -11,8 +11,8 @@ use Rattle.laws.specs.All.{all}
 use Rattle.rule.specs.Rule.{independent, holdsBack, lowers}
 use Rattle.checks.specs.Opening.{Task, task, sizesRight, endsRight, weightsRight, passagesRight, estimatesRight, passagesBound, detoursBy, detoursFrom, detoursBound, earlyFault, fault}
 use Rattle.checks.specs.Fits.{marksRight, labelsRight, workersRight, holders, heldOnce}
-use Rattle.dealing.specs.Board.{dependsOn, firstDependence, safe, key, choice, anyOpen, anyOut}
-use Rattle.dealing.specs.Decision.{decision}
+use Rattle.dealing.specs.Board.{dependsOn, firstDependence, safe, key, choice, foremost, anyOpen, anyOut, firstMarked}
+use Rattle.dealing.specs.Decision.{waitedFor, decision}
 use Rattle.trail.specs.Trail.{stateBack, isHome, isLinked, stopsAt, pathLength, statesBack}
 use Rattle.desk.specs.declared.Machine.{Machine}
 use Rattle.desk.specs.declared.Reply.{Reply}
@@ -82,9 +82,9 @@ abbrev eventsA : List Event
 eventsA = take 0 ∷ take 1 ∷ bring 0 ∷ take 0 ∷ take 1 ∷ bring 0 ∷ take 1 ∷ take 0 ∷ bring 1 ∷ take 0 ∷ take 1 ∷ bring 0 ∷ take 1 ∷ []
 
 pub record Starred : Type 0 where
-  -- A1 Task A, "T0 T1 B0 T0 T1 B0 T1 T0 B1 T0 T1 B0 T1", and its path into five places
+  -- A1 Task A, "T0 T1 B0 T0 T1 B0 T1 T0 B1 T0 T1 B0 T1", and its path into five places; order 1: "The `wait` lines of run A1 then end in 0, 1, 2 and 3."
   pub A1 : run taskA eventsA ≡
-      Took 0 ∷ Wait ∷ Brought 2 ∷ Took 1 ∷ Wait ∷ Brought 2 ∷ Took 2 ∷ Wait ∷ Brought 1 ∷ Took 3 ∷ Wait ∷ Brought 1 ∷ Found 6 ∷ []
+      Took 0 ∷ Wait 0 ∷ Brought 2 ∷ Took 1 ∷ Wait 1 ∷ Brought 2 ∷ Took 2 ∷ Wait 2 ∷ Brought 1 ∷ Took 3 ∷ Wait 3 ∷ Brought 1 ∷ Found 6 ∷ []
   pub A1-reply : reading taskA eventsA (replicate 5 9) 0 .given .reply ≡ Read 5
   pub A1-path : reading taskA eventsA (replicate 5 9) 0 .buffer ≡ 0 ∷ 1 ∷ 2 ∷ 3 ∷ 4 ∷ []
   -- A2 "That path from place 1 of 6 places: 5."
@@ -95,10 +95,10 @@ pub record Starred : Type 0 where
   pub A3-buffer : reading taskA eventsA (replicate 6 9) 2 .buffer ≡ replicate 6 9
   -- B1 "Task B, E 300, T0 B0 T0 T1: the last is Took 2"; B2 "E 299: Wait."
   pub B1 : run (taskB 300) (take 0 ∷ bring 0 ∷ take 0 ∷ take 1 ∷ []) ≡ Took 0 ∷ Brought 2 ∷ Took 1 ∷ Took 2 ∷ []
-  pub B2 : run (taskB 299) (take 0 ∷ bring 0 ∷ take 0 ∷ take 1 ∷ []) ≡ Took 0 ∷ Brought 2 ∷ Took 1 ∷ Wait ∷ []
+  pub B2 : run (taskB 299) (take 0 ∷ bring 0 ∷ take 0 ∷ take 1 ∷ []) ≡ Took 0 ∷ Brought 2 ∷ Took 1 ∷ Wait 1 ∷ []
   -- B3 "E 300 continued B0 T0 B1 T0 T1 B0 T1: Brought 1, Wait, Brought 1, Took 3, Wait, Brought 1, Found 8"
   pub B3 : replies passages ones (end (taskB 300) (take 0 ∷ bring 0 ∷ take 0 ∷ take 1 ∷ [])) (bring 0 ∷ take 0 ∷ bring 1 ∷ take 0 ∷ take 1 ∷ bring 0 ∷ take 1 ∷ []) ≡
-      Brought 1 ∷ Wait ∷ Brought 1 ∷ Took 3 ∷ Wait ∷ Brought 1 ∷ Found 8 ∷ []
+      Brought 1 ∷ Wait 2 ∷ Brought 1 ∷ Took 3 ∷ Wait 3 ∷ Brought 1 ∷ Found 8 ∷ []
   -- C1 "n 1, start = goal: T0 gives Found 0, path 0."
   pub C1 : run (taskC 1 0 (replicate 1 0)) (take 0 ∷ []) ≡ Found 0 ∷ []
   pub C1-reply : reading (taskC 1 0 (replicate 1 0)) (take 0 ∷ []) (replicate 1 9) 0 .given .reply ≡ Read 1
@@ -113,7 +113,7 @@ pub record Starred : Type 0 where
   pub C6 : run taskA (bring 0 ∷ []) ≡ Refused 11 ∷ []
 
 pub starred : Starred
-unfolding fold first least count all independent holdsBack lowers sizesRight endsRight weightsRight passagesRight estimatesRight passagesBound detoursBy detoursFrom detoursBound earlyFault fault marksRight labelsRight workersRight holders heldOnce dependsOn firstDependence safe key choice anyOpen anyOut decision stateBack isHome isLinked stopsAt pathLength statesBack fits openedMachine blankMachine openingOf admitted takeStep takeOf applyPassage sweepOf bringStep bringOf pathOf replies after
+unfolding fold first least count all independent holdsBack lowers sizesRight endsRight weightsRight passagesRight estimatesRight passagesBound detoursBy detoursFrom detoursBound earlyFault fault marksRight labelsRight workersRight holders heldOnce dependsOn firstDependence safe key choice foremost anyOpen anyOut firstMarked waitedFor decision stateBack isHome isLinked stopsAt pathLength statesBack fits openedMachine blankMachine openingOf admitted takeStep takeOf applyPassage sweepOf bringStep bringOf pathOf replies after
 starred = record {
   A1 = refl;
   A1-reply = refl;

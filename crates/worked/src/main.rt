@@ -29,7 +29,7 @@ fn say(worker: usize, reply: Reply) {
         Reply::Brought(many) => line(b"brought ", w, many as u64),
         Reply::Found(cost) => line(b"found ", w, cost as u64),
         Reply::NoPath => short(b"nopath ", w),
-        Reply::Wait => short(b"wait ", w),
+        Reply::Wait(s) => line(b"wait ", w, s as u64),
         Reply::Read(many) => line(b"read ", w, many as u64),
         Reply::Refused(number) => line(b"refused ", w, number as u64),
     }

@@ -1,9 +1,10 @@
 //! The comparison, case by case: the same random calls go to both desks, and
 //! every reply, every number handed back, every place of every buffer and the
 //! printed text are compared. Replies on accepted tasks are also held against
-//! demand 3. Without a library only the latter is done.
+//! demand 3, and every Wait against order 1 of document 02. Without a library
+//! only the latter two are done.
 
-use crate::demand::Watch;
+use crate::demand::{self, Watch};
 use crate::desk::{Graph, Reply, Task, FOUND};
 use crate::maker::{self, Rng};
 use crate::rows::{self, Independent, RowDesk, Shown, PHASE, PRINT_ROOM, ROW};
@@ -14,7 +15,7 @@ use std::fmt::Debug;
 /// Stops a case at its first fault; carries what is wrong.
 pub type Checked<T> = Result<T, String>;
 
-/// Runs one case; says what differs or goes against demand 3.
+/// Runs one case; says what differs or goes against demand 3 or order 1.
 pub fn run_case(desks: &mut Desks, seed: u64, case: u64) -> Checked<()> {
     let mut rng = Rng::new(seed, case);
     match rng.below(20) {
@@ -185,9 +186,18 @@ impl Desks<'_> {
     ) -> Checked<Reply> {
         self.show(|| format!("{action:?} worker {worker}"));
         match action {
-            Action::Take => self.both("take", row, |desk, row| desk.take(row, graph, worker)),
+            Action::Take => self.take(row, graph, worker),
             Action::Bring => self.both("bring", row, |desk, row| desk.bring(row, graph, worker)),
         }
+    }
+
+    /// A Take; a Wait, which leaves the machine as it was, is held against order 1.
+    fn take(&mut self, row: &mut [u32], graph: Graph, worker: usize) -> Checked<Reply> {
+        let reply = self.both("take", row, |desk, row| desk.take(row, graph, worker))?;
+        if let Reply::Wait(state) = reply {
+            demand::see_wait(row, graph, state)?;
+        }
+        Ok(reply)
     }
 
     fn path(&mut self, row: &[u32], graph: Graph, buffer: &mut [u16], at: usize) -> Checked<Reply> {

@@ -2,9 +2,12 @@
 //! with an own Dijkstra: no state is dealt twice; a found path is a chain of the
 //! task's passages from start to goal that adds up to its cost, and 100 * cost is
 //! at most E * shortest; NoPath is given only where there is no route.
+//!
+//! And what order 1 of document 02 asks of a Wait on any machine, checked with
+//! own sums: that it names the state that is waited for.
 
-use crate::desk::{Reply, Task, MAX_STATES};
-use crate::rows::VIAS;
+use crate::desk::{Graph, Machine, Reply, Task, MAX_STATES, OPEN, OUT};
+use crate::rows::{self, VIAS};
 
 /// Follows the replies to one task's calls.
 pub struct Watch<'a> {
@@ -84,6 +87,83 @@ impl<'a> Watch<'a> {
             Some(p) if p[0] == u32::from(from) && p[1] == u32::from(to) => Ok(u64::from(p[2])),
             _ => Err(format!("passage {number} is none from {from} to {to}")),
         }
+    }
+}
+
+/// Checks the state that a Wait on the machine in `row` names.
+pub fn see_wait(row: &[u32], graph: Graph, named: u16) -> Result<(), String> {
+    let machine = rows::decode(row).ok_or("Wait on a row that holds no machine")?;
+    let waiting = Waiting {
+        machine,
+        estimates: graph.estimates,
+    };
+    let named = usize::from(named);
+    waiting
+        .check(named)
+        .map_err(|fault| format!("Wait {named}, {fault}"))
+}
+
+/// A machine that a call was told to wait on, with the lent estimates.
+struct Waiting<'a> {
+    machine: Machine,
+    estimates: &'a [u32],
+}
+
+impl Waiting<'_> {
+    fn check(&self, named: usize) -> Result<(), String> {
+        if self.marked(&[OPEN, OUT]).all(|s| s != named) {
+            return Err("which is neither open nor out".into());
+        }
+        let Some(lowest_out) = self.marked(&[OUT]).next() else {
+            return Err("but nothing is out".into());
+        };
+        match self.marked(&[OPEN]).min_by_key(|&s| (self.key(s), s)) {
+            Some(smallest) => self.check_dependence(smallest, named),
+            None if named != lowest_out => Err(format!("but {lowest_out} is out, and none open")),
+            None => Ok(()),
+        }
+    }
+
+    /// The open state with the smallest key depends on the one that is named,
+    /// another than itself, and on none that is lower.
+    fn check_dependence(&self, smallest: usize, named: usize) -> Result<(), String> {
+        if named == smallest {
+            return Err("which has the smallest key itself".into());
+        }
+        if !self.depends(smallest, named) {
+            return Err(format!("but {smallest} does not depend on it"));
+        }
+        let mut lower = self.marked(&[OPEN, OUT]).take_while(|&s| s < named);
+        match lower.find(|&s| self.depends(smallest, s)) {
+            Some(lower) => Err(format!("but {smallest} depends on {lower}")),
+            None => Ok(()),
+        }
+    }
+
+    /// The states with one of these marks, by rising number.
+    fn marked<'b>(&'b self, marks: &'b [u8]) -> impl Iterator<Item = usize> + 'b {
+        (0..self.machine.head.n).filter(|&s| marks.contains(&self.machine.marks[s]))
+    }
+
+    fn key(&self, state: usize) -> u64 {
+        let pull = u64::from(self.machine.head.pull);
+        self.hundredfold(state) + pull * self.estimate(state, self.machine.head.goal)
+    }
+
+    /// Whether `state` is not independent of `other`; the label subtracted there
+    /// is added here on the other side.
+    fn depends(&self, state: usize, other: usize) -> bool {
+        let excess = u64::from(self.machine.head.excess);
+        self.hundredfold(state) > self.hundredfold(other) + excess * self.estimate(other, state)
+    }
+
+    /// 100 * label.
+    fn hundredfold(&self, state: usize) -> u64 {
+        100 * u64::from(self.machine.labels[state])
+    }
+
+    fn estimate(&self, from: usize, to: usize) -> u64 {
+        u64::from(self.estimates[from * self.machine.head.n + to])
     }
 }
 

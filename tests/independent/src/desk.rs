@@ -1,5 +1,5 @@
 //! The independent desk: task, machine, opening, Take, Bring and path reading,
-//! written straight from document 01.
+//! written straight from document 01 and order 1 of document 02.
 
 pub const MAX_STATES: usize = 256;
 pub const MAX_WORKERS: usize = 32;
@@ -27,7 +27,8 @@ pub enum Reply {
     Brought(u32),
     Found(u32),
     NoPath,
-    Wait,
+    /// The state that is waited for.
+    Wait(u16),
     Read(u32),
     Refused(u32),
 }
@@ -153,7 +154,10 @@ impl Machine {
                 Reply::Took(state as u32)
             }
             None if !live.any_out => Reply::Refused(12),
-            None => Reply::Wait,
+            None => {
+                let state = self.waited_for(graph, live.states());
+                Reply::Wait(state.expect("some state is out, and no open one is safe"))
+            }
         }
     }
 
@@ -232,14 +236,19 @@ impl Machine {
         marks.iter().filter(|&&m| m == OUT).count() == holders
     }
 
-    /// Whether `state` is independent of all of `live`. It may be one of them:
-    /// each state is independent of itself, since 0 <= E * h.
     fn is_safe(&self, graph: Graph, live: &[u16], state: usize) -> bool {
+        self.first_dependence(graph, live, state).is_none()
+    }
+
+    /// The lowest of `live` that `state` depends on. It may be one of them: each
+    /// state is independent of itself, since 0 <= E * h.
+    fn first_dependence(&self, graph: Graph, live: &[u16], state: usize) -> Option<u16> {
         let label = i64::from(self.labels[state]);
         let excess = i64::from(self.head.excess);
-        live.iter().map(|&t| usize::from(t)).all(|t| {
+        live.iter().copied().find(|&t| {
+            let t = usize::from(t);
             let h = i64::from(graph.estimates[t * self.head.n + state]);
-            100 * (label - i64::from(self.labels[t])) <= excess * h
+            100 * (label - i64::from(self.labels[t])) > excess * h
         })
     }
 
@@ -263,6 +272,18 @@ impl Machine {
             }
         }
         best
+    }
+
+    /// What Wait names. With something open, the lowest-numbered state that the
+    /// smallest-key open state depends on (lowest number among equal keys); with
+    /// nothing open, the lowest-numbered out state.
+    fn waited_for(&self, graph: Graph, live: &[u16]) -> Option<u16> {
+        let open = (0..self.head.n).filter(|&s| self.marks[s] == OPEN);
+        match open.min_by_key(|&s| (self.key(graph, s), s)) {
+            Some(smallest) => self.first_dependence(graph, live, smallest),
+            // All that is live is out.
+            None => live.first().copied(),
+        }
     }
 
     /// Sets or lowers labels along the passages from `state`; says how often.

@@ -1,12 +1,13 @@
-//! An independent route desk, written from document 01 alone, and what compares
-//! the proved desk with it.
+//! An independent route desk, written from document 01 and order 1 of document 02
+//! alone, and what compares the proved desk with it.
 //!
 //! - `desk`: the task, the machine, opening, Take, Bring and path reading.
 //! - `taskfile`: the task file's reader and the text `deskrun` prints.
 //! - `rows`: the interface by number rows that both desks are called through.
 //! - `library`: the proved desk behind that interface (the only unsafe code).
 //! - `maker`: random tasks, machines, calls, buffers and files, from a seed.
-//! - `demand`: what demand 3 asks of a run, checked with an own Dijkstra.
+//! - `demand`: what demand 3 asks of a run, checked with an own Dijkstra, and
+//!   what order 1 asks of a Wait.
 //! - `compare`: one case of the comparison.
 //! - `tally`: counts of what the cases met.
 //! - `runs`: the runs of document 01, for either desk.

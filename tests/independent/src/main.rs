@@ -2,8 +2,9 @@
 //!
 //! Options: `--cases N` (100000), `--seed S` (1), `--seconds LIMIT`,
 //! `--case I` (replays one case of the seed, step by step), `--self` (compares
-//! nothing: only the runs of document 01 and demand 3 on the independent desk),
-//! `--progress` (names each case before it is run, should the library crash).
+//! nothing: only the runs of document 01, demand 3 and order 1 on the independent
+//! desk), `--progress` (names each case before it is run, should the library
+//! crash).
 //! The last line is `compared N cases, D differences`; status 1 where D > 0.
 
 use independent::compare::{run_case, Desks};

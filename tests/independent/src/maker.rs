@@ -1,7 +1,9 @@
 //! The random maker: tasks, made-up machines, calls, buffers and task files,
 //! good and damaged, all drawn from a seed and a case number.
 
-use crate::desk::{Head, Machine, Task, MAX_COST, MAX_LABEL, MAX_PASSAGES, NONE, OUT};
+use crate::desk::{
+    Head, Machine, Task, MAX_COST, MAX_LABEL, MAX_PASSAGES, NONE, OPEN, OUT, SEARCHING, UNSEEN,
+};
 use crate::rows::{self, HELD, LABELS, MARKS, PHASE, ROW, VIAS};
 use crate::taskfile::{Action, MAX_FILE};
 
@@ -328,6 +330,9 @@ pub fn buffer(rng: &mut Rng, count: usize) -> (Vec<u16>, usize) {
 pub fn made_up(rng: &mut Rng) -> (Task, Vec<u32>) {
     let mut task = made_up_task(rng);
     let mut row = made_up_row(rng, &task);
+    if rng.percent(20) {
+        hold_back(rng, &mut task, &mut row);
+    }
     if rng.percent(45) {
         for _ in 0..rng.pick(&[1, 1, 1, 2, 3]) {
             damage_row(rng, &mut row);
@@ -406,6 +411,28 @@ fn deal_out(rng: &mut Rng, row: &mut [u32], head: &Head) {
         if rng.percent(busy_percent) && row[MARKS + state] != u32::from(OUT) {
             row[MARKS + state] = u32::from(OUT);
             row[HELD + worker] = state as u32;
+        }
+    }
+}
+
+/// Makes a Take likely to wait: the search is on, what was unseen is open, and
+/// some out states get label 0. Estimates are 0, so that a state depends on all
+/// with lower labels, but for those to the goal, so that keys rank states
+/// otherwise than labels do.
+fn hold_back(rng: &mut Rng, task: &mut Task, row: &mut [u32]) {
+    row[PHASE] = u32::from(SEARCHING);
+    let height = rng.pick(&[1, 3, 20, 1000]);
+    task.estimates.fill(0);
+    for (state, estimates) in task.estimates.chunks_exact_mut(task.head.n).enumerate() {
+        let mark = &mut row[MARKS + state];
+        if *mark == u32::from(UNSEEN) {
+            *mark = u32::from(OPEN);
+        }
+        if *mark == u32::from(OUT) && rng.percent(50) {
+            row[LABELS + state] = 0;
+        } else {
+            row[LABELS + state] = 1 + rng.up_to(height);
+            estimates[task.head.goal] = rng.up_to(height);
         }
     }
 }

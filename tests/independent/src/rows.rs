@@ -34,7 +34,7 @@ pub fn code(reply: Reply) -> u64 {
         Reply::Brought(count) => (2, count),
         Reply::Found(cost) => (3, cost),
         Reply::NoPath => (4, 0),
-        Reply::Wait => (5, 0),
+        Reply::Wait(state) => (5, u32::from(state)),
         Reply::Read(count) => (6, count),
         Reply::Refused(number) => (7, number),
     };
@@ -50,7 +50,7 @@ pub fn reply(code: u64) -> Option<Reply> {
         (2, _) => Some(Reply::Brought(value)),
         (3, _) => Some(Reply::Found(value)),
         (4, 0) => Some(Reply::NoPath),
-        (5, 0) => Some(Reply::Wait),
+        (5, _) => u16::try_from(value).ok().map(Reply::Wait),
         (6, _) => Some(Reply::Read(value)),
         (7, _) => Some(Reply::Refused(value)),
         _ => None,

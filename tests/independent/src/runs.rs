@@ -1,4 +1,5 @@
-//! The runs of document 01, A1 to C6 and the unstarred ones, for either desk.
+//! The runs of document 01, A1 to C6 and the unstarred ones, for either desk;
+//! their Waits name the state that order 1 of document 02 adds.
 
 use crate::desk::{Head, Reply, Task};
 use crate::maker;
@@ -7,16 +8,16 @@ use crate::taskfile::Action;
 
 const A1_TEXT: &str = "\
 took 0 0
-wait 1
+wait 1 0
 brought 0 2
 took 0 1
-wait 1
+wait 1 1
 brought 0 2
 took 1 2
-wait 0
+wait 0 2
 brought 1 1
 took 0 3
-wait 1
+wait 1 3
 brought 0 1
 found 1 6
 path 0 1 2 3 4
@@ -63,7 +64,7 @@ pub const RUNS: &[Run] = &[
     },
     Run {
         name: "B2",
-        check: |desk| expect_end(desk, &task_b(299), "T0 B0 T0 T1", &[Reply::Wait]),
+        check: |desk| expect_end(desk, &task_b(299), "T0 B0 T0 T1", &[Reply::Wait(1)]),
     },
     Run {
         name: "B3",
@@ -71,10 +72,10 @@ pub const RUNS: &[Run] = &[
             let calls = "T0 B0 T0 T1 B0 T0 B1 T0 T1 B0 T1";
             let last = [
                 Reply::Brought(1),
-                Reply::Wait,
+                Reply::Wait(2),
                 Reply::Brought(1),
                 Reply::Took(3),
-                Reply::Wait,
+                Reply::Wait(3),
                 Reply::Brought(1),
                 Reply::Found(8),
             ];

@@ -18,7 +18,7 @@ impl Tally {
             Reply::Brought(_) => ("brought", 0),
             Reply::Found(_) => ("found", 0),
             Reply::NoPath => ("nopath", 0),
-            Reply::Wait => ("wait", 0),
+            Reply::Wait(_) => ("wait", 0),
             Reply::Read(_) => ("read", 0),
             Reply::Refused(number) => ("refused", number),
         };

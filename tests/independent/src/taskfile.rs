@@ -194,7 +194,7 @@ fn print_reply(text: &mut String, worker: usize, reply: Reply) {
         Reply::Brought(count) => writeln!(text, "brought {worker} {count}"),
         Reply::Found(cost) => writeln!(text, "found {worker} {cost}"),
         Reply::NoPath => writeln!(text, "nopath {worker}"),
-        Reply::Wait => writeln!(text, "wait {worker}"),
+        Reply::Wait(state) => writeln!(text, "wait {worker} {state}"),
         Reply::Refused(number) => writeln!(text, "refused {worker} {number}"),
         Reply::Opened | Reply::Read(_) => unreachable!("no answer to Take or Bring"),
     }

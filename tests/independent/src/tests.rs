@@ -1,13 +1,13 @@
 //! Self-tests of the independent desk, its file reader, the maker and the
-//! demand 3 check; they need no library.
+//! checks of demand 3 and of Waits; they need no library.
 
 use crate::compare::{run_case, Desks};
-use crate::demand::{shortest, Watch};
+use crate::demand::{see_wait, shortest, Watch};
 use crate::desk::{
-    Graph, Machine, Reply, Task, FINISHED, FOUND, MAX_LABEL, MAX_PASSAGES, NONE, OPEN, OUT,
+    Graph, Machine, Reply, Task, FINISHED, FOUND, MAX_LABEL, MAX_PASSAGES, NONE, OPEN, OUT, UNSEEN,
 };
 use crate::maker::{self, Rng};
-use crate::rows::{self, Independent, RowDesk, ROW};
+use crate::rows::{self, Independent, RowDesk, PRINT_ROOM, ROW};
 use crate::runs::{self, task_a};
 use crate::tally::Tally;
 use crate::taskfile::{self, Action, Fault, MAX_FILE};
@@ -124,7 +124,7 @@ fn take_after(change: impl FnOnce(&mut Machine)) -> Reply {
     change(&mut machine);
     let before = machine.clone();
     let reply = machine.take(task.graph(), 0);
-    if matches!(reply, Reply::Refused(_) | Reply::Wait) {
+    if matches!(reply, Reply::Refused(_) | Reply::Wait(_)) {
         assert_eq!(machine, before);
     }
     reply
@@ -197,7 +197,7 @@ fn no_path_only_when_nothing_is_out() {
     task.passages.clear();
     let mut machine = opened(&task);
     assert_eq!(machine.take(task.graph(), 0), Reply::Took(0));
-    assert_eq!(machine.take(task.graph(), 1), Reply::Wait);
+    assert_eq!(machine.take(task.graph(), 1), Reply::Wait(0));
     assert_eq!(machine.bring(task.graph(), 0), Reply::Brought(0));
     assert_eq!(machine.take(task.graph(), 1), Reply::NoPath);
 }
@@ -211,7 +211,45 @@ fn parallel_passages_lower_a_label_twice() {
     assert_eq!((machine.labels[1], machine.vias[1]), (4, 3));
 }
 
-/// Take as document 01 words it, without any shortcut.
+/// Task A with h(2,4) = 9, which opening would refuse, and a machine that worker
+/// 0's Take waits on: 1 has the smallest key and depends on 2 and on 3, which is
+/// out; 2 depends on 3 alone.
+fn waiting() -> (Task, Machine) {
+    let mut machine = opened(&task_a());
+    machine.head.k = 4;
+    machine.marks[..5].copy_from_slice(&[FINISHED, OPEN, OPEN, OUT, UNSEEN]);
+    machine.labels[1..3].copy_from_slice(&[10, 5]);
+    machine.held[1] = 3;
+    (changed(|t| t.estimates[2 * 5 + 4] = 9), machine)
+}
+
+/// Deals the open states of `waiting` to two more workers.
+fn deal_all(machine: &mut Machine) {
+    machine.marks[1..3].fill(OUT);
+    machine.held[2..4].copy_from_slice(&[1, 2]);
+}
+
+/// What a Take on `waiting` waits for: as it is; when 1 does not depend on 2; when
+/// 1 and 2 have equal keys; when 2 has the smaller key; when nothing is open.
+const WAITS: &[(u16, Change)] = &[
+    (2, |_| {}),
+    (3, |m| m.labels[2] = 10),
+    (2, |m| m.labels[1] = 14),
+    (3, |m| m.labels[1] = 15),
+    (1, deal_all),
+];
+
+#[test]
+fn wait_names_a_state() {
+    for (line, &(state, change)) in WAITS.iter().enumerate() {
+        let (task, mut machine) = waiting();
+        change(&mut machine);
+        let reply = machine.take(task.graph(), 0);
+        assert_eq!(reply, Reply::Wait(state), "line {line}");
+    }
+}
+
+/// Take as document 01 words it, with order 1's Wait, without any shortcut.
 fn literal_take(machine: &Machine, graph: Graph) -> Reply {
     let n = machine.head.n;
     let live = |t: usize| machine.marks[t] == OPEN || machine.marks[t] == OUT;
@@ -220,8 +258,10 @@ fn literal_take(machine: &Machine, graph: Graph) -> Reply {
     let independent = |s: usize, t: usize| {
         100 * (label(s) - label(t)) <= i128::from(machine.head.excess) * h(t, s)
     };
-    let safe = |s: usize| (0..n).all(|t| t == s || !live(t) || independent(s, t));
+    let depends = |s: usize, t: usize| t != s && live(t) && !independent(s, t);
+    let safe = |s: usize| !(0..n).any(|t| depends(s, t));
     let open = |s: usize| machine.marks[s] == OPEN;
+    let out = |s: usize| machine.marks[s] == OUT;
     let goal = machine.head.goal;
     let key = |s: usize| 100 * label(s) + i128::from(machine.head.pull) * h(s, goal);
     if open(goal) && safe(goal) {
@@ -231,16 +271,20 @@ fn literal_take(machine: &Machine, graph: Graph) -> Reply {
         return Reply::NoPath;
     }
     let candidates = (0..n).filter(|&s| open(s) && safe(s));
-    match candidates.min_by_key(|&s| (key(s), s)) {
-        Some(state) => Reply::Took(state as u32),
-        None if (0..n).all(|s| machine.marks[s] != OUT) => Reply::Refused(12),
-        None => Reply::Wait,
+    if let Some(state) = candidates.min_by_key(|&s| (key(s), s)) {
+        return Reply::Took(state as u32);
     }
+    if !(0..n).any(out) {
+        return Reply::Refused(12);
+    }
+    let smallest = (0..n).filter(|&s| open(s)).min_by_key(|&s| (key(s), s));
+    let waited_for = (0..n).find(|&t| smallest.map_or(out(t), |s| depends(s, t)));
+    Reply::Wait(waited_for.expect("a state to wait for") as u16)
 }
 
 #[test]
 fn take_is_the_literal_one() {
-    let mut compared = 0;
+    let (mut compared, mut waits_for_open) = (0, 0);
     for case in 0..5000 {
         let (task, row) = maker::made_up(&mut Rng::new(11, case));
         let Some(mut machine) = rows::decode(&row) else {
@@ -254,9 +298,13 @@ fn take_is_the_literal_one() {
             let wanted = literal_take(&machine, task.graph());
             assert_eq!(machine.take(task.graph(), worker), wanted, "case {case}");
             compared += 1;
+            if let Reply::Wait(state) = wanted {
+                waits_for_open += u32::from(machine.marks[usize::from(state)] == OPEN);
+            }
         }
     }
     assert!(compared > 500, "only {compared} compared");
+    assert!(waits_for_open > 0, "no open state waited for");
 }
 
 // ---- Path reading ----
@@ -374,7 +422,7 @@ fn codes_and_replies_go_both_ways() {
         Reply::Brought(0),
         Reply::Found(MAX_LABEL),
         Reply::NoPath,
-        Reply::Wait,
+        Reply::Wait(255),
         Reply::Read(9),
         Reply::Refused(12),
     ];
@@ -382,6 +430,8 @@ fn codes_and_replies_go_both_ways() {
         assert_eq!(rows::code(reply) >> 32, case as u64);
         assert_eq!(rows::reply(rows::code(reply)), Some(reply));
     }
+    assert_eq!(rows::reply(4 << 32 | 1), None);
+    assert_eq!(rows::reply(5 << 32 | 65_536), None);
 }
 
 // ---- Task files ----
@@ -447,7 +497,7 @@ fn printed_faults_and_refusals() {
 
 #[test]
 fn print_asks_for_room() {
-    let mut out = vec![b'.'; 262_143];
+    let mut out = vec![b'.'; PRINT_ROOM - 1];
     assert_eq!(Independent.print(&HEAD, &mut out), 0);
     assert!(out.iter().all(|&byte| byte == b'.'));
     out.push(b'.');
@@ -490,6 +540,39 @@ fn demand_3_catches_wrong_runs() {
     assert!(Watch::new(&cut).see(Reply::NoPath).is_ok());
 }
 
+/// What is wrong with a Wait that names a state on `waiting` after a change.
+fn wait_fault(named: u16, change: Change) -> Option<String> {
+    let (task, mut machine) = waiting();
+    change(&mut machine);
+    let mut row = vec![0; ROW];
+    rows::encode(&machine, &mut row);
+    see_wait(&row, task.graph(), named).err()
+}
+
+#[test]
+fn wrong_waits_are_caught() {
+    for (line, &(named, change)) in WAITS.iter().enumerate() {
+        assert_eq!(wait_fault(named, change), None, "line {line}");
+    }
+    let wrong: &[(u16, &str, Change)] = &[
+        (0, "which is neither open nor out", |_| {}),
+        (4, "which is neither open nor out", |_| {}),
+        (5, "which is neither open nor out", |m| m.marks[5] = OUT),
+        (NONE, "which is neither open nor out", |_| {}),
+        (2, "but nothing is out", |m| m.marks[3] = FINISHED),
+        (1, "which has the smallest key itself", |_| {}),
+        (2, "but 1 does not depend on it", |m| m.labels[2] = 10),
+        (3, "but 1 depends on 2", |_| {}),
+        (3, "but 1 depends on 2", |m| m.labels[1] = 14),
+        (2, "but 1 is out, and none open", deal_all),
+    ];
+    for &(named, fault, change) in wrong {
+        let fault = format!("Wait {named}, {fault}");
+        assert_eq!(wait_fault(named, change), Some(fault));
+    }
+    assert!(see_wait(&[], task_a().graph(), 0).is_err());
+}
+
 /// A stand-in for a library: the independent desk with one thing wrong.
 struct Wrong(fn(&mut [u32], u64) -> u64);
 
@@ -528,6 +611,8 @@ fn comparison_sees_a_wrong_reply_and_a_wrong_number() {
     assert_eq!(count_differences(Some(&Independent), 300).0, 0);
     let other_refusal = Wrong(|_, reply| reply + u64::from(reply == 7 << 32 | 9));
     assert!(count_differences(Some(&other_refusal), 300).0 > 0);
+    let other_wait = Wrong(|_, reply| reply + u64::from(reply >> 32 == 5));
+    assert!(count_differences(Some(&other_wait), 300).0 > 0);
     let forgets_phase = Wrong(|row, reply| {
         if reply >> 32 == 4 {
             row[6] = 0;

@@ -1,28 +1,32 @@
--- The outer loop's invariant: `best` is the choice among the states below `next`, and `least` its key; the inner loop's: `s` depends on no state below `t`.
+-- The outer loop's invariant: `best` leads the safe states below `next`, and as long as none is safe `front` leads the open ones; the inner loop keeps it, and `s` depends on no state below `t`.
 use mathlib.Core.Path.{_≡_, _∙_, sym}
 use mathlib.Core.Bool.{true, false}
 use mathlib.Core.Logic.{⊎-elim, inl, inr}
 use Prim.Native.Nat.{_≤_, _-_}
+use native.Mathlib.Omega.{arith}
 use denote.Ref.{now}
 use borrow.Author.Needs.{needs}
 use Rattle.laws.specs.First.{first, first-zero, first-more}
-use Rattle.laws.specs.Least.{Best, best-zero, best-skip, best-lost, best-won, best-end}
-use Rattle.dealing.specs.Board.{Board, board, dependsOn, safe, key, choice}
-use Rattle.dealing.specs.Laws.{depends-self, depends-other, safe-shut, safe-stopped, safe-passed, key-is}
+use Rattle.dealing.specs.Board.{Board, board, dependsOn, key}
+use Rattle.dealing.specs.Laws.{depends-self, depends-other, safe-passed, key-is, Leads, leads-zero, leads-shut, leads-lost, leads-behind, leads-front, leads-safe, leads-chosen, leads-stopped, leads-none}
 use Rattle.dealing.proofs.choose.Statement.{statement}
 use Rattle.dealing.proofs.choose.Tie as tie
 
 abbrev Inv-loop : tie.InvT-loop
-Inv-loop mark label estimates n excess goal pull best least next s label-s key t₀ t = (t ≤ n) × (first (dependsOn (board n excess estimates mark label) s) t ≡ t)
+Inv-loop mark label estimates n excess goal pull best least front₀ ahead₀ stop₀ next s label-s key t₀ front ahead stop t =
+    (t ≤ n) × Leads goal pull (board n excess estimates mark label) s best least front ahead stop × (first (dependsOn (board n excess estimates mark label) s) t ≡ t)
 
 abbrev μ-loop : tie.MeasureT-loop
-μ-loop mark label estimates n excess goal pull best least next s label-s key t₀ t = n - t
+μ-loop mark label estimates n excess goal pull best least front₀ ahead₀ stop₀ next s label-s key t₀ front ahead stop t =
+    n - t
 
 abbrev Inv-candidates : tie.InvT-candidates
-Inv-candidates mark label estimates n excess goal pull best₀ least₀ next₀ best least next = (next ≤ n) × Best (safe (board n excess estimates mark label)) (key goal pull (board n excess estimates mark label)) n next best least
+Inv-candidates mark label estimates n excess goal pull best₀ least₀ front₀ ahead₀ stop₀ next₀ best least front ahead stop next =
+    (next ≤ n) × Leads goal pull (board n excess estimates mark label) next best least front ahead stop
 
 abbrev μ-candidates : tie.MeasureT-candidates
-μ-candidates mark label estimates n excess goal pull best₀ least₀ next₀ best least next = n - next
+μ-candidates mark label estimates n excess goal pull best₀ least₀ front₀ ahead₀ stop₀ next₀ best least front ahead stop next =
+    n - next
 
 -- what is lent, as a board
 abbrev lent : tie.Start Inv-loop μ-loop Inv-candidates μ-candidates → Board
@@ -34,8 +38,14 @@ its-key :
     → c .key .result ≡ key (c .before .before .before .before .before .before .before .before .args .goal) (c .before .before .before .before .before .before .before .before .args .pull) (lent (c .before .before .before .before .before .before .before .before)) (c .before .before .before .before .before .before .candidates .next)
 its-key c = key-is _ _ _ _ _ _ (c .key .ensures) (c .before .estimate .ensures)
 
+-- where the test stops, the candidate depends on t
+held :
+    (c : tie.Then5 Inv-loop μ-loop Inv-candidates μ-candidates)
+    → dependsOn (lent (c .before .before .before .before .before .before .before .before .before .before .before .before .before .before .before .before .before)) (c .before .before .before .before .before .before .before .before .before .before .before .before .before .before .before .candidates .next) (c .before .before .before .before .before .before .before .loop .t) ≡ true
+held c = depends-other _ _ _ _ true (c .before .before .before .before .before .if4 .taken) (c .before .before .before .before .estimate2 .ensures) (sym (c .if5 .taken) ∙ c .before .holds-back .ensures)
+
 candidates-holds : tie.Need-candidates-holds Inv-loop μ-loop Inv-candidates μ-candidates
-candidates-holds c = (search needs, best-zero _ _ _ 0)
+candidates-holds c = (search needs, leads-zero _ _ _ 0 0 _)
 
 add-next : tie.Need-add-next Inv-loop μ-loop Inv-candidates μ-candidates
 add-next c = search needs
@@ -49,7 +59,7 @@ candidates-less c = search needs
 candidates-again : tie.Need-candidates-again Inv-loop μ-loop Inv-candidates μ-candidates
 candidates-again c =
     let o = c .before .before .before .candidates in
-    (search needs, best-skip _ _ _ (o .next) _ _ (o .inv .1) (safe-shut _ _ (c .if1 .taken)))
+    (search needs, leads-shut _ _ _ _ _ _ _ _ _ (o .inv .1) (c .if1 .taken))
 
 mul-label-s : tie.Need-mul-label-s Inv-loop μ-loop Inv-candidates μ-candidates
 mul-label-s c = search needs
@@ -70,10 +80,12 @@ candidates-less-2 c = search needs
 candidates-again-2 : tie.Need-candidates-again-2 Inv-loop μ-loop Inv-candidates μ-candidates
 candidates-again-2 c =
     let o = c .before .before .before .before .before .before .before .before .candidates in
-    (search needs, best-lost _ _ _ (o .next) _ _ (o .inv .1) (c .before .if2 .taken) (rw (its-key (c .before .before)) at (c .if3 .taken)))
+    (search needs, leads-lost _ _ _ _ _ _ _ _ _ (o .inv .1) (c .before .if2 .taken) (omega (arith, its-key (c .before .before), c .if3 .taken)))
 
 loop-holds : tie.Need-loop-holds Inv-loop μ-loop Inv-candidates μ-candidates
-loop-holds c = (search needs, first-zero _)
+loop-holds c =
+    let o = c .before .before .before .before .before .before .before .candidates in
+    (search needs, o .inv .1, first-zero _)
 
 estimate-requires-2 : tie.Need-estimate-requires-2 Inv-loop μ-loop Inv-candidates μ-candidates
 estimate-requires-2 c κs = search needs
@@ -97,12 +109,38 @@ candidates-less-3 c = search needs
 
 candidates-again-3 : tie.Need-candidates-again-3 Inv-loop μ-loop Inv-candidates μ-candidates
 candidates-again-3 c =
-    let o = c .before .before .before .before .before .before .before .before .before .before .before .before .before .before .before .candidates in
-    let l = c .before .before .before .before .before .before .before .loop in (
+    let l = c .before .before .before .before .before .before .before .before .before .loop in (
       search needs,
-      best-skip _ _ _ (o .next) _ _ (o .inv .1) (safe-stopped _ _ (l .t) (l .inv .1)
-          (depends-other _ _ (l .t) _ true (c .before .before .before .before .before .if4 .taken) (c .before .before .before .before .estimate2 .ensures) (sym (c .if5 .taken) ∙ c .before .holds-back .ensures))
-          (c .before .before .before .before .before .before .loop-test .taken)),
+      leads-behind _ _ _ _ _ _ _ _ _ (l .inv .1)
+          (l .t) (l .inv .2) (held (c .before .before)) (c .before .before .before .before .before .before .before .before .loop-test .taken)
+          (c .before .if6 .taken) (omega (arith, its-key (c .before .before .before .before .before .before .before .before .before .before .before), c .if7 .taken)),
+    )
+
+candidates-less-4 : tie.Need-candidates-less-4 Inv-loop μ-loop Inv-candidates μ-candidates
+candidates-less-4 c = search needs
+
+candidates-again-4 : tie.Need-candidates-again-4 Inv-loop μ-loop Inv-candidates μ-candidates
+candidates-again-4 c =
+    let l = c .before .before .before .before .before .before .before .before .before .loop in (
+      search needs,
+      rw (its-key (c .before .before .before .before .before .before .before .before .before .before .before))
+          (leads-front _ _ _ _ _ _ _ _ _ (l .inv .1)
+          (l .t) (l .inv .2) (held (c .before .before)) (c .before .before .before .before .before .before .before .before .loop-test .taken)
+          (c .before .before .before .before .before .before .before .before .before .before .before .before .before .before .if1 .left)
+          (inr (c .before .if6 .taken, rw (its-key (c .before .before .before .before .before .before .before .before .before .before .before)) at (c .if7 .left)))),
+    )
+
+candidates-less-5 : tie.Need-candidates-less-5 Inv-loop μ-loop Inv-candidates μ-candidates
+candidates-less-5 c = search needs
+
+candidates-again-5 : tie.Need-candidates-again-5 Inv-loop μ-loop Inv-candidates μ-candidates
+candidates-again-5 c =
+    let l = c .before .before .before .before .before .before .before .before .loop in (
+      search needs,
+      rw (its-key (c .before .before .before .before .before .before .before .before .before .before))
+          (leads-front _ _ _ _ _ _ _ _ _ (l .inv .1)
+          (l .t) (l .inv .2) (held (c .before)) (c .before .before .before .before .before .before .before .loop-test .taken)
+          (c .before .before .before .before .before .before .before .before .before .before .before .before .before .if1 .left) (inl (c .if6 .left))),
     )
 
 add-t : tie.Need-add-t Inv-loop μ-loop Inv-candidates μ-candidates
@@ -115,32 +153,41 @@ loop-again : tie.Need-loop-again Inv-loop μ-loop Inv-candidates μ-candidates
 loop-again c =
     let l = c .before .before .loop in (
       search needs,
-      first-more _ (l .t) (l .inv .1)
+      l .inv .1,
+      first-more _ (l .t) (l .inv .2)
           (⊎-elim
           (λ w. depends-other _ _ (l .t) _ false (w .0 .taken) (w .1 .ensures) (sym (w .5 .left) ∙ w .4 .ensures))
           (λ w. depends-self _ _ (l .t) (w .left))
           (c .if4 .came)),
     )
 
-candidates-less-4 : tie.Need-candidates-less-4 Inv-loop μ-loop Inv-candidates μ-candidates
-candidates-less-4 c = search needs
+candidates-less-6 : tie.Need-candidates-less-6 Inv-loop μ-loop Inv-candidates μ-candidates
+candidates-less-6 c = search needs
 
-candidates-again-4 : tie.Need-candidates-again-4 Inv-loop μ-loop Inv-candidates μ-candidates
-candidates-again-4 c =
-    let o = c .before .before .before .before .before .before .before .before .before .candidates in
+candidates-again-6 : tie.Need-candidates-again-6 Inv-loop μ-loop Inv-candidates μ-candidates
+candidates-again-6 c =
     let l = c .before .loop in (
       search needs,
       rw (its-key (c .before .before .before))
-          (best-won _ _ _ (o .next) _ _ (o .inv .1)
-          (safe-passed _ _ (l .t) (c .before .before .before .before .before .before .if1 .left) (l .inv .1) (l .inv .0) (c .loop-test .left))
+          (leads-safe _ _ _ _ _ _ _ _ _ (l .inv .1) (c .before .before .before .before .before .before .before .before .candidates-test .taken)
+          (safe-passed _ _ (l .t) (c .before .before .before .before .before .before .if1 .left) (l .inv .2) (l .inv .0) (c .loop-test .left))
           (⊎-elim (λ w. inr (w .0 .taken, rw (its-key (c .before .before .before)) at (w .1 .left))) (λ w. inl (w .left)) (c .before .before .if2 .came))),
     )
 
 returns : tie.Need-returns Inv-loop μ-loop Inv-candidates μ-candidates
-unfolding choice
 returns c =
-    let o = c .before .candidates in
-    best-end _ _ _ (o .next) _ _ _ (o .inv .1) (o .inv .0) (c .candidates-test .left)
+    let o = c .before .before .candidates in
+    leads-chosen _ _ _ _ _ _ _ _ _ (o .inv .1) (o .inv .0) (c .before .candidates-test .left) (c .if8 .taken)
+
+returns-2 : tie.Need-returns-2 Inv-loop μ-loop Inv-candidates μ-candidates
+returns-2 c =
+    let o = c .before .before .before .candidates in
+    leads-stopped _ _ _ _ _ _ _ _ _ (o .inv .1) (o .inv .0) (c .before .before .candidates-test .left) (c .before .if8 .left) (c .if9 .taken)
+
+returns-3 : tie.Need-returns-3 Inv-loop μ-loop Inv-candidates μ-candidates
+returns-3 c =
+    let o = c .before .before .before .candidates in
+    leads-none _ _ _ _ _ _ _ _ _ (o .inv .1) (o .inv .0) (c .before .before .candidates-test .left) (c .before .if8 .left) (c .if9 .left)
 
 pub choose-spec : {M : Type 1} → statement M
 choose-spec =
@@ -169,9 +216,15 @@ choose-spec =
     holds-back-requires
     candidates-less-3
     candidates-again-3
+    candidates-less-4
+    candidates-again-4
+    candidates-less-5
+    candidates-again-5
     add-t
     loop-less
     loop-again
-    candidates-less-4
-    candidates-again-4
-    returns)
+    candidates-less-6
+    candidates-again-6
+    returns
+    returns-2
+    returns-3)

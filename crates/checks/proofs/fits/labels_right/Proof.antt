@@ -10,8 +10,6 @@ use lib.ListN.{getD}
 use Rattle.laws.specs.All.{all, all-zero, all-kept, all-lost, all-whole}
 use Rattle.checks.proofs.fits.labels_right.Statement.{statement}
 use Rattle.checks.proofs.fits.labels_right.Tie as tie
-use Rattle.checks.proofs.fits.labels_right.Reads as reads
-use Rattle.checks.proofs.fits.labels_right.Lts as lts
 
 abbrev Inv-loop : tie.InvT-loop
 Inv-loop label n right₀ s₀ right s = (s ≤ n) × (right ≡ all (λ i. leb (getD label i 0) 255000000) s)
@@ -19,33 +17,26 @@ Inv-loop label n right₀ s₀ right s = (s ≤ n) × (right ≡ all (λ i. leb 
 abbrev μ-loop : tie.MeasureT-loop
 μ-loop label n right₀ s₀ right s = n - s
 
--- src/fits.rt:26:5
 loop-holds : tie.Need-loop-holds Inv-loop μ-loop
 loop-holds c = (search needs, sym (all-zero _))
 
--- src/fits.rt:27:12
 mul-if1 : tie.Need-mul-if1 Inv-loop μ-loop
 mul-if1 c = search needs
 
--- src/fits.rt:27:12
 element-copy-out-if1 : tie.Need-element-copy-out-if1 Inv-loop μ-loop
 element-copy-out-if1 c = search needs
 
--- src/fits.rt:26:9
 add-s : tie.Need-add-s Inv-loop μ-loop
 add-s c = search needs
 
--- src/fits.rt:26:5
 loop-less : tie.Need-loop-less Inv-loop μ-loop
 loop-less c = search needs
 
--- src/fits.rt:26:5
 loop-again : tie.Need-loop-again Inv-loop μ-loop
 loop-again c =
     let l = c .before .before .before .loop in
     (search needs, ⊎-elim (λ w. rw (w .1) (all-lost _ (l .s) (lt-leb _ 255000000 (w .0 .taken)))) (λ w. rw (w .1) (all-kept _ (l .s) _ (l .inv .1) (le-leb _ 255000000 (w .0 .left)))) (c .if1 .came))
 
--- src/fits.rt:21:1
 returns : tie.Need-returns Inv-loop μ-loop
 unfolding labelsRight
 returns c = let l = c .before .loop in all-whole _ (l .s) _ _ (l .inv .1) (l .inv .0) (c .loop-test .left)

@@ -6,13 +6,10 @@ use mathlib.Core.Path.{_≡_, sym}
 use mathlib.Core.Logic.{⊎-elim}
 use Prim.Native.Nat.{_≤_, _-_}
 use borrow.Author.Tests.{le-leb, lt-leb}
-use lib.Dec.{leb}
 use lib.ListN.{getD}
 use Rattle.laws.specs.All.{all, all-zero, all-kept, all-lost, all-whole}
 use Rattle.checks.proofs.fits.marks_right.Statement.{statement}
 use Rattle.checks.proofs.fits.marks_right.Tie as tie
-use Rattle.checks.proofs.fits.marks_right.Reads as reads
-use Rattle.checks.proofs.fits.marks_right.Lts as lts
 
 abbrev Inv-loop : tie.InvT-loop
 Inv-loop mark n right₀ s₀ right s = (s ≤ n) × (right ≡ all (λ i. isMark (getD mark i 0)) s)
@@ -20,29 +17,23 @@ Inv-loop mark n right₀ s₀ right s = (s ≤ n) × (right ≡ all (λ i. isMar
 abbrev μ-loop : tie.MeasureT-loop
 μ-loop mark n right₀ s₀ right s = n - s
 
--- src/fits.rt:12:5
 loop-holds : tie.Need-loop-holds Inv-loop μ-loop
 loop-holds c = (search needs, sym (all-zero _))
 
--- src/fits.rt:13:12
 element-copy-out-if1 : tie.Need-element-copy-out-if1 Inv-loop μ-loop
 element-copy-out-if1 c = search needs
 
--- src/fits.rt:12:9
 add-s : tie.Need-add-s Inv-loop μ-loop
 add-s c = search needs
 
--- src/fits.rt:12:5
 loop-less : tie.Need-loop-less Inv-loop μ-loop
 loop-less c = search needs
 
--- src/fits.rt:12:5
 loop-again : tie.Need-loop-again Inv-loop μ-loop
 loop-again c =
     let l = c .before .before .before .loop in
     (search needs, ⊎-elim (λ w. rw (w .1) (all-lost _ (l .s) (lt-leb _ 3 (w .0 .taken)))) (λ w. rw (w .1) (all-kept _ (l .s) _ (l .inv .1) (le-leb _ 3 (w .0 .left)))) (c .if1 .came))
 
--- src/fits.rt:7:1
 returns : tie.Need-returns Inv-loop μ-loop
 unfolding marksRight
 returns c = let l = c .before .loop in all-whole _ (l .s) _ _ (l .inv .1) (l .inv .0) (c .loop-test .left)

@@ -10,9 +10,6 @@ use Rattle.checks.specs.Opening.{detourBounds, detoursBy}
 use Rattle.checks.specs.Laws.{estimate-low}
 use Rattle.checks.proofs.opening.detours_by.Statement.{statement}
 use Rattle.checks.proofs.opening.detours_by.Tie as tie
-use Rattle.checks.proofs.opening.detours_by.Reads as reads
-use Rattle.checks.proofs.opening.detours_by.Lts as lts
-use Rattle.rule.proofs.estimate.Reads as estimate-reads
 
 abbrev Inv-loop : tie.InvT-loop
 Inv-loop estimates n a b to-b right₀ c₀ right c = (c ≤ n) × (right ≡ all (detourBounds estimates n a b) c)
@@ -20,23 +17,18 @@ Inv-loop estimates n a b to-b right₀ c₀ right c = (c ≤ n) × (right ≡ al
 abbrev μ-loop : tie.MeasureT-loop
 μ-loop estimates n a b to-b right₀ c₀ right c = n - c
 
--- src/opening.rt:136:9
 estimate-requires : tie.Need-estimate-requires Inv-loop μ-loop
 estimate-requires c κs = search needs
 
--- src/opening.rt:139:5
 loop-holds : tie.Need-loop-holds Inv-loop μ-loop
 loop-holds c = (search needs, sym (all-zero _))
 
--- src/opening.rt:140:12
 estimate-requires-2 : tie.Need-estimate-requires-2 Inv-loop μ-loop
 estimate-requires-2 c κs = search needs
 
--- src/opening.rt:140:56
 estimate-requires-3 : tie.Need-estimate-requires-3 Inv-loop μ-loop
 estimate-requires-3 c κs = search needs
 
--- src/opening.rt:140:49
 add-if1 : tie.Need-add-if1 Inv-loop μ-loop
 add-if1 c =
     let s = c .before .before .before .before .before .before in
@@ -48,15 +40,12 @@ add-if1 c =
       estimate-low _ _ (s .pre .0 .1) (s .args .b) (c .before .before .before .loop .c) (s .pre .1 .1) (c .before .before .loop-test .taken),
     )
 
--- src/opening.rt:139:9
 add-c : tie.Need-add-c Inv-loop μ-loop
 add-c c = search needs
 
--- src/opening.rt:139:5
 loop-less : tie.Need-loop-less Inv-loop μ-loop
 loop-less c = search needs
 
--- src/opening.rt:139:5
 loop-again : tie.Need-loop-again Inv-loop μ-loop
 loop-again c =
     let l = c .before .before .before .before .loop in (
@@ -67,7 +56,6 @@ loop-again c =
           (c .if1 .came),
     )
 
--- src/opening.rt:132:1
 returns : tie.Need-returns Inv-loop μ-loop
 unfolding detoursBy
 returns c = let l = c .before .loop in all-whole _ (l .c) _ _ (l .inv .1) (l .inv .0) (c .loop-test .left)

@@ -1,78 +1,64 @@
+-- Each decision is what `act` says of it, and a state that it names has a place in the rows.
 use mathlib.Core.Path.{ap, sym, subst, _∙_}
 use native.Mathlib.Omega.{arith}
 use Prim.Native.Nat.{_<_}
 use Rattle.desk.specs.Take.{act}
-use Rattle.desk.specs.Laws.{Dealable}
+use Rattle.desk.specs.Laws.{Placed}
 use borrow.Author.Needs.{needs}
 use Rattle.desk.proofs.take.act.Statement.{statement}
 use Rattle.desk.proofs.take.act.Tie as tie
-use Rattle.desk.proofs.take.act.Reads as reads
-use Rattle.desk.proofs.take.act.Lts as lts
-use Rattle.desk.proofs.fits.refused.Reads as refused-reads
 
--- the state that is dealt has a place in the rows
+-- the state that is dealt has a place in the rows, and so has the state that is waited for
 deal-in : (c : tie.After-known-told2) → c .before .decision2 .given .0 .0 < 256
-deal-in c = subst Dealable (c .before .decision2 .given .1) (c .before .before .before .pre .0)
+deal-in c = subst Placed (c .before .decision2 .given .1) (c .before .before .before .pre .0)
 
--- src/take.rt:20:25
 enum-known-decision : tie.Need-enum-known-decision
 enum-known-decision c = search needs
 
--- src/take.rt:28:13
 enum-told : tie.Need-enum-told
 enum-told c = search needs
 
--- src/take.rt:34:24
 enum-known-decision-2 : tie.Need-enum-known-decision-2
 enum-known-decision-2 c = search needs
 
--- src/take.rt:35:26
 cast-number : tie.Need-cast-number
 cast-number c = omega (arith, deal-in c)
 
--- src/take.rt:36:13
 element-write-next : tie.Need-element-write-next
 element-write-next c = deal-in c
 
--- src/take.rt:37:13
 mul-next : tie.Need-mul-next
 mul-next c = search needs
 
--- src/take.rt:37:13
 element-write-next-2 : tie.Need-element-write-next-2
 element-write-next-2 c = search needs
 
--- src/take.rt:43:28
 enum-told-2 : tie.Need-enum-told-2
 enum-told-2 c = search needs
 
--- src/take.rt:43:28
 refused-requires : tie.Need-refused-requires
 refused-requires c κs = search needs
 
--- src/take.rt:46:20
-enum-told-3 : tie.Need-enum-told-3
-enum-told-3 c = search needs
+enum-known-decision-3 : tie.Need-enum-known-decision-3
+enum-known-decision-3 c = search needs
 
--- src/take.rt:14:1
+cast-t21 : tie.Need-cast-t21
+cast-t21 c = omega (arith, subst Placed (c .before .decision3 .given .1) (c .before .before .before .pre .0))
+
 returns : tie.Need-returns
 returns c = ap (act _ _) (sym (c .before .decision .given .1))
 
--- src/take.rt:14:1
 returns-2 : tie.Need-returns-2
 returns-2 c = ap (act _ _) (sym (c .enum-told .given .1))
 
--- src/take.rt:14:1
 returns-3 : tie.Need-returns-3
 returns-3 c = ap (act _ _) (sym (c .before .decision2 .given .1))
 
--- src/take.rt:14:1
 returns-4 : tie.Need-returns-4
 returns-4 c = c .refused .ensures ∙ ap (act _ _) (sym (c .before .enum-told2 .given .1))
 
--- src/take.rt:14:1
 returns-5 : tie.Need-returns-5
-returns-5 c = ap (act _ _) (sym (c .enum-told3 .given .1))
+returns-5 c = ap (act _ _) (sym (c .before .decision3 .given .1))
 
 pub act-spec : {M : Type 1} → statement M
 act-spec =
@@ -87,7 +73,8 @@ act-spec =
     element-write-next-2
     enum-told-2
     refused-requires
-    enum-told-3
+    enum-known-decision-3
+    cast-t21
     returns
     returns-2
     returns-3

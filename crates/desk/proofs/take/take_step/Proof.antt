@@ -1,7 +1,7 @@
 -- `desk::take::take_step` acts on what was decided, and a decided state has a place in the rows.
 use mathlib.Core.Path.{_∙_, ap, subst⁻¹}
 use Rattle.desk.specs.Take.{act, takeStep}
-use Rattle.desk.specs.Laws.{Dealable, dealable}
+use Rattle.desk.specs.Laws.{Placed, placed}
 use borrow.Author.Needs.{needs}
 use Rattle.desk.proofs.take.take_step.Statement.{statement}
 use Rattle.desk.proofs.take.take_step.Tie as tie
@@ -10,7 +10,7 @@ decide-requires : tie.Need-decide-requires
 decide-requires c κs = search needs
 
 act-requires : tie.Need-act-requires
-act-requires c κs = (subst⁻¹ Dealable (c .decide .ensures) (dealable _ _ _ (search needs)), search needs)
+act-requires c κs = (subst⁻¹ Placed (c .decide .ensures) (placed _ _ _ (search needs)), search needs)
 
 returns : tie.Need-returns
 unfolding takeStep

@@ -10,8 +10,6 @@ use Rattle.laws.specs.All.{all, all-zero, all-kept, all-lost, all-whole}
 use Rattle.deskc.specs.Row.{atMost}
 use Rattle.deskc.proofs.row.at_most.Statement.{statement}
 use Rattle.deskc.proofs.row.at_most.Tie as tie
-use Rattle.deskc.proofs.row.at_most.Reads as reads
-use Rattle.deskc.proofs.row.at_most.Lts as lts
 
 abbrev Inv-loop : tie.InvT-loop
 Inv-loop row from count most right₀ i₀ right i = (i ≤ count) × (right ≡ all (λ j. leb (getD row (from + j) 0) most) i)
@@ -19,37 +17,29 @@ Inv-loop row from count most right₀ i₀ right i = (i ≤ count) × (right ≡
 abbrev μ-loop : tie.MeasureT-loop
 μ-loop row from count most right₀ i₀ right i = count - i
 
--- src/row.rt:27:5
 loop-holds : tie.Need-loop-holds Inv-loop μ-loop
 loop-holds c = (search needs, sym (all-zero _))
 
--- src/row.rt:28:16
 add-if1 : tie.Need-add-if1 Inv-loop μ-loop
 add-if1 c = search needs
 
--- src/row.rt:28:12
 mul-if1 : tie.Need-mul-if1 Inv-loop μ-loop
 mul-if1 c = search needs
 
--- src/row.rt:28:12
 shared-slice-read-if1 : tie.Need-shared-slice-read-if1 Inv-loop μ-loop
 shared-slice-read-if1 c = search needs
 
--- src/row.rt:27:9
 add-i : tie.Need-add-i Inv-loop μ-loop
 add-i c = search needs
 
--- src/row.rt:27:5
 loop-less : tie.Need-loop-less Inv-loop μ-loop
 loop-less c = search needs
 
--- src/row.rt:27:5
 loop-again : tie.Need-loop-again Inv-loop μ-loop
 loop-again c =
     let l = c .before .before .before .loop in
     (search needs, ⊎-elim (λ w. rw (w .1) (all-lost _ (l .i) (lt-leb _ _ (w .0 .taken)))) (λ w. rw (w .1) (all-kept _ (l .i) _ (l .inv .1) (le-leb _ _ (w .0 .left)))) (c .if1 .came))
 
--- src/row.rt:22:1
 returns : tie.Need-returns Inv-loop μ-loop
 unfolding atMost
 returns c = let l = c .before .loop in all-whole _ (l .i) _ _ (l .inv .1) (l .inv .0) (c .loop-test .left)

@@ -1,29 +1,11 @@
 -- The word, the states and the line's end are pieces one after another, and every other reply leaves the buffer as it was.
-use mathlib.Core.Path.{_≡_, refl, subst}
-use mathlib.Core.List.{List, [], _∷_}
-use Prim.Native.Nat.{ℕ}
-use types.Run.{OneOf, miss}
-use denote.Enum.Declared.{tagOf}
+use mathlib.Core.Path.{subst}
+use mathlib.Core.List.{[], _∷_}
 use borrow.Author.Needs.{needs}
-use Rattle.desk.proofs.Reply.{the-type}
-use Rattle.desk.specs.declared.Reply.{Reply}
-use Rattle.desk.specs.declared.Reply.the-variants.{Opened, Took, Brought, Found, NoPath, Wait, Read, Refused}
-use Rattle.report.specs.Line.{readText}
-use Rattle.report.specs.Laws.{Drawn}
+use Rattle.report.specs.Laws.{Drawn, other-case}
 use Rattle.report.specs.LineLaws.{put-three, put-none}
 use Rattle.report.proofs.line.put_read.Statement.{statement}
 use Rattle.report.proofs.line.put_read.Tie as tie
-
--- the other seven variants print nothing
-unread : (states : List ℕ) (r : Reply) → OneOf (0 ∷ 1 ∷ 2 ∷ 3 ∷ 4 ∷ 5 ∷ 7 ∷ []) (tagOf the-type r) → readText states r ≡ []
-unread states Opened h = refl
-unread states (Took s) h = refl
-unread states (Brought many) h = refl
-unread states (Found cost) h = refl
-unread states NoPath h = refl
-unread states Wait h = refl
-unread states (Read many) h = absurd (miss (0 ∷ 1 ∷ 2 ∷ 3 ∷ 4 ∷ 5 ∷ 7 ∷ []) 6 tt h)
-unread states (Refused number) h = refl
 
 enum-known-reply : tie.Need-enum-known-reply
 enum-known-reply c = search needs
@@ -58,7 +40,7 @@ returns c =
 returns-2 : tie.Need-returns-2
 returns-2 c =
     let s = c .before .before in
-    rw (unread (s .args .states .now) (s .args .reply) (c .match .keys2)) (put-none _ _, search needs)
+    rw (other-case (0 ∷ 1 ∷ 2 ∷ 3 ∷ 4 ∷ 5 ∷ 7 ∷ []) 6 (s .args .reply) tt (c .match .keys2)) (put-none _ _, search needs)
 
 pub put-read-spec : {M : Type 1} → statement M
 put-read-spec =

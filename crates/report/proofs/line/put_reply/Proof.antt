@@ -1,6 +1,6 @@
 -- Each variant of the reply has its line, and the two without one leave the buffer as it was.
-use borrow.Author.Needs.{needs}
 use Rattle.report.specs.LineLaws.{put-none}
+use borrow.Author.Needs.{needs}
 use Rattle.report.proofs.line.put_reply.Statement.{statement}
 use Rattle.report.proofs.line.put_reply.Tie as tie
 
@@ -52,18 +52,6 @@ slice-aggregate-put-line1 c = search needs
 put-line1-requires : tie.Need-put-line1-requires
 put-line1-requires c κs = search needs
 
-enum-told-3 : tie.Need-enum-told-3
-enum-told-3 c = search needs
-
-slice-aggregate-put-line1-2 : tie.Need-slice-aggregate-put-line1-2
-slice-aggregate-put-line1-2 c = search needs
-
-put-line1-requires-2 : tie.Need-put-line1-requires-2
-put-line1-requires-2 c κs = search needs
-
-enum-told-4 : tie.Need-enum-told-4
-enum-told-4 c = search needs
-
 enum-known-reply-4 : tie.Need-enum-known-reply-4
 enum-known-reply-4 c = search needs
 
@@ -75,6 +63,21 @@ cast-put-line2-4 c = search needs
 
 put-line2-requires-4 : tie.Need-put-line2-requires-4
 put-line2-requires-4 c κs = search needs
+
+enum-told-3 : tie.Need-enum-told-3
+enum-told-3 c = search needs
+
+enum-known-reply-5 : tie.Need-enum-known-reply-5
+enum-known-reply-5 c = search needs
+
+slice-aggregate-put-line2-5 : tie.Need-slice-aggregate-put-line2-5
+slice-aggregate-put-line2-5 c = search needs
+
+cast-put-line2-5 : tie.Need-cast-put-line2-5
+cast-put-line2-5 c = search needs
+
+put-line2-requires-5 : tie.Need-put-line2-requires-5
+put-line2-requires-5 c κs = search needs
 
 returns : tie.Need-returns
 returns c = rw (c .enum-told .given .1) (put-none _ _, search needs)
@@ -107,16 +110,16 @@ same-length-5 : tie.Need-same-length-5
 same-length-5 c = search needs
 
 returns-6 : tie.Need-returns-6
-returns-6 c = rw (c .before .before .before .before .before .enum-told3 .given .1) (c .before .before .put-line12 .ensures)
+returns-6 c = rw (c .before .before .before .before .before .before .reply4 .given .1) (c .before .before .put-line24 .ensures)
 
 returns-7 : tie.Need-returns-7
-returns-7 c = rw (c .enum-told4 .given .1) (put-none _ _, search needs)
+returns-7 c = rw (c .enum-told3 .given .1) (put-none _ _, search needs)
 
 same-length-6 : tie.Need-same-length-6
 same-length-6 c = search needs
 
 returns-8 : tie.Need-returns-8
-returns-8 c = rw (c .before .before .before .before .before .before .reply4 .given .1) (c .before .before .put-line24 .ensures)
+returns-8 c = rw (c .before .before .before .before .before .before .reply5 .given .1) (c .before .before .put-line25 .ensures)
 
 pub put-reply-spec : {M : Type 1} → statement M
 put-reply-spec =
@@ -138,14 +141,15 @@ put-reply-spec =
     enum-told-2
     slice-aggregate-put-line1
     put-line1-requires
-    enum-told-3
-    slice-aggregate-put-line1-2
-    put-line1-requires-2
-    enum-told-4
     enum-known-reply-4
     slice-aggregate-put-line2-4
     cast-put-line2-4
     put-line2-requires-4
+    enum-told-3
+    enum-known-reply-5
+    slice-aggregate-put-line2-5
+    cast-put-line2-5
+    put-line2-requires-5
     returns
     same-length
     returns-2
