@@ -12,8 +12,9 @@
  * A slice is a pointer and a count of elements; slices of one call must not overlap where one of them is written.
  *
  * Every call returns a reply: its case times 2^32, plus the number that it carries.
- * A refusal leaves the row, and a buffer, as they were. A row that hasn't DESK_ROW numbers, or has one that is too
- * large for its field (W, E, passage numbers and held states above 65535, marks and phase above 255), gets refusal 8.
+ * A refusal leaves the row, a buffer and a row of replies as they were. A row that hasn't DESK_ROW numbers, or has one
+ * that is too large for its field (W, E, passage numbers and held states above 65535, marks and phase above 255), gets
+ * refusal 8.
  */
 #ifndef ROUTE_DESK_H
 #define ROUTE_DESK_H
@@ -35,7 +36,8 @@ enum {
     DESK_NOPATH = 4,
     DESK_WAIT = 5,    /* the state waited for */
     DESK_READ = 6,    /* how many states the path has */
-    DESK_REFUSED = 7  /* the refusal's number, 1 to 15 */
+    DESK_REFUSED = 7, /* the refusal's number, 1 to 18 */
+    DESK_DONE = 8     /* a morning's events were served */
 };
 
 #define DESK_CASE(reply) ((unsigned)((reply) >> 32))
@@ -62,6 +64,16 @@ uint64_t desk_path(const uint32_t *machine, size_t machine_len,
                    const uint32_t *passages, size_t passages_len,
                    const uint32_t *estimates, size_t estimates_len,
                    uint16_t *buffer, size_t buffer_len, size_t at);
+
+/* Serves a morning's events one after the other and writes a reply for each to the front of replies: Done, or refused
+ * with 16 (fewer places than events), 18 (an event that is neither Take nor Bring) or 8 (the row isn't a machine), in
+ * this order. An event is 65536 * call + worker, call 0 for Take and 1 for Bring, worker 0 to 65535. Replies and
+ * machine are those of the calls made singly, refused ones included; places past the last event keep what they had. */
+uint64_t desk_morning(uint32_t *machine, size_t machine_len,
+                      const uint32_t *passages, size_t passages_len,
+                      const uint32_t *estimates, size_t estimates_len,
+                      const uint32_t *events, size_t events_len,
+                      uint64_t *replies, size_t replies_len);
 
 /* What deskrun prints for a task file: the text goes to the front of text, and its length is returned.
  * Where text has fewer than DESK_ROOM places nothing is written, and 0 is returned. */

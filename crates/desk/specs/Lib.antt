@@ -8,4 +8,6 @@ pub mod Take
 pub mod Bring
 pub mod Path
 pub mod Calls
+pub mod Morning
+pub mod CallLaws
 pub mod Laws

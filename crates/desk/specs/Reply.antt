@@ -1,11 +1,11 @@
 -- Replies: a machine handed back with a reply beside it, and the document's number and value for each case.
 -- A case that is added, or gains a number, is added here; what callers make of one case they say by `when`.
 use mathlib.Core.Bool.{cond}
-use Prim.Native.Nat.{ℕ, _+_, _*_}
+use Prim.Native.Nat.{ℕ, _+_, _*_, _/_, _%_}
 use lib.Dec.{eqb}
 use Rattle.desk.specs.declared.Machine.{Machine}
 use Rattle.desk.specs.declared.Reply.{Reply}
-use Rattle.desk.specs.declared.Reply.the-variants.{Opened, Took, Brought, Found, NoPath, Wait, Read, Refused}
+use Rattle.desk.specs.declared.Reply.the-variants.{Opened, Took, Brought, Found, NoPath, Wait, Read, Refused, Done}
 use Rattle.desk.specs.declared.Answer.{Answer}
 
 -- "Each call takes a machine and replies beside the machine that the call hands back."
@@ -26,6 +26,7 @@ caseOf NoPath = 4
 caseOf (Wait s) = 5
 caseOf (Read many) = 6
 caseOf (Refused number) = 7
+caseOf Done = 8
 
 -- the number that the reply carries: the state taken, the labels set or lowered, the cost found, the state waited for, the states of the path, the refusal's number; 0 where it carries none
 abbrev pub valueOf : Reply → ℕ
@@ -37,6 +38,7 @@ valueOf NoPath = 0
 valueOf (Wait s) = s
 valueOf (Read many) = many
 valueOf (Refused number) = number
+valueOf Done = 0
 
 -- the cases that callers look for
 abbrev pub took : ℕ
@@ -62,3 +64,19 @@ refusalOf r = when refusal r (λ number. number) 0
 -- a reply as one number: its case times 2^32, plus its value
 unfoldable pub codeOf : Reply → ℕ
 codeOf r = caseOf r * 4294967296 + valueOf r
+
+-- and back: the reply of a case with a value; Opened where there is no such case
+abbrev pub replyWith : ℕ → ℕ → Reply
+replyWith case value =
+    cond (eqb case 1) (Took value)
+    (cond (eqb case 2) (Brought value)
+    (cond (eqb case 3) (Found value)
+    (cond (eqb case 4) NoPath
+    (cond (eqb case 5) (Wait value)
+    (cond (eqb case 6) (Read value)
+    (cond (eqb case 7) (Refused value)
+    (cond (eqb case 8) Done
+    Opened)))))))
+
+unfoldable pub replyOf : ℕ → Reply
+replyOf code = replyWith (code / 4294967296) (code % 4294967296)

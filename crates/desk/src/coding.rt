@@ -16,5 +16,6 @@ pub fn code(reply: Reply) -> u64
         Reply::Wait(s) => 21474836480 + (s as u64),
         Reply::Read(many) => 25769803776 + (many as u64),
         Reply::Refused(number) => 30064771072 + (number as u64),
+        Reply::Done => 34359738368,
     }
 }

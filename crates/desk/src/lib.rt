@@ -1,13 +1,16 @@
 // The route desk: a machine that deals junction states out to workers and takes them back, one call at a time.
-// The calls are Machine::opening, take, bring and path. Each is defined for every input.
+// The calls are Machine::opening, take, bring, morning and path. Each is defined for every input.
 mod bring;
 mod coding;
 mod fits;
+mod mornings;
 mod opening;
 mod path;
 mod take;
 
 pub use coding::code;
+pub use mornings::called;
+pub use mornings::morning_fault;
 
 // n, k, start, goal, W and E of the task; the phase, 0 searching, 1 found, 2 no path; for each state a mark, a label
 // and the number of the passage that the label came by; for each worker the state that it holds.
@@ -34,6 +37,7 @@ pub enum Reply {
     Wait(u16),
     Read(u16),
     Refused(u8),
+    Done,
 }
 
 // The machine that a call hands back, with its reply beside it.

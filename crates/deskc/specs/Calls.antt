@@ -1,4 +1,5 @@
 -- The calls over a row: what each returns as a number, and what the row then holds.
+use mathlib.Core.Bool.{cond}
 use mathlib.Core.List.{List}
 use Prim.Native.Nat.{ℕ}
 use lib.ListN.{length}
@@ -12,6 +13,7 @@ use Rattle.desk.specs.Opening.{openingOf}
 use Rattle.desk.specs.Take.{takeOf}
 use Rattle.desk.specs.Bring.{bringOf}
 use Rattle.desk.specs.Path.{Reading, pathOf}
+use Rattle.desk.specs.Morning.{Morning, morningFault, morningOf}
 use Rattle.deskc.specs.Row.{rowLength, isRow, unpacked, changed, packed}
 
 -- a reply's number, and the row
@@ -48,3 +50,21 @@ lines r = record { code = codeOf (r .given .reply); buffer = r .buffer }
 unfoldable pub pathRow : List ℕ → List ℕ → List ℕ → List ℕ → ℕ → Lines
 pathRow row passages estimates buffer at =
     provided (isRow row) (record { code = codeOf (Refused 8); buffer = buffer }) (lines (pathOf (unpacked row) passages estimates buffer at))
+
+-- a morning over a row: the reply's number, the machine's row, and the row of replies; "Refusals, before all others: 16 .., then 18"
+pub record Served : Type 0 where
+  pub code : ℕ
+  pub row : List ℕ
+  pub replies : List ℕ
+
+abbrev pub unserved : List ℕ → List ℕ → ℕ → Served
+unserved row replies number = record { code = codeOf (Refused number); row = row; replies = replies }
+
+abbrev pub served : List ℕ → Morning → Served
+served row o = record { code = codeOf (o .given .reply); row = changed row (o .given .machine); replies = o .row }
+
+unfoldable pub morningRow : List ℕ → List ℕ → List ℕ → List ℕ → List ℕ → Served
+morningRow row passages estimates events replies =
+    cond (eqb (morningFault events (length replies)) 0)
+    (provided (isRow row) (unserved row replies 8) (served row (morningOf (unpacked row) passages estimates events replies)))
+    (unserved row replies (morningFault events (length replies)))

@@ -1,13 +1,14 @@
-// The desk for C: opening, Take, Bring, path reading and printing, over numbers and lent rows of numbers.
+// The desk for C: opening, Take, Bring, whole mornings, path reading and printing, over numbers and lent rows of numbers.
 // include/route_desk.h declares each.
 ghost use mathlib.Core.Path.{_≡_};
 ghost use Rattle.checks.specs.Opening.{task};
 ghost use Rattle.report.specs.Text.{reportLength, reportBuffer};
-ghost use Rattle.deskc.specs.Calls.{openRow, takeRow, bringRow, pathRow};
+ghost use Rattle.deskc.specs.Calls.{openRow, takeRow, bringRow, morningRow, pathRow};
 
 mod row;
 
 use desk::Machine;
+use desk::Reply;
 
 #[no_mangle]
 pub extern "C" fn desk_open(
@@ -71,6 +72,33 @@ pub extern "C" fn desk_bring(
     }
     let m = row::unpack(machine);
     let answer = m.bring(passages, estimates, worker);
+    let reply = answer.reply;
+    let next = answer.machine;
+    row::put_changing(machine, next);
+    desk::code(reply)
+}
+
+#[no_mangle]
+pub extern "C" fn desk_morning(
+    machine: &mut [u32],
+    passages: &[u32],
+    estimates: &[u32],
+    events: &[u32],
+    replies: &mut [u64],
+) -> u64
+    ensures { λ r. ⌜ r ≡ morningRow (now (machine .entry)) (now (passages .entry)) (now (estimates .entry)) (now (events .entry)) (now (replies .entry)) .code ⌝ }
+    ensures { λ r. ⌜ now (machine .exit) ≡ morningRow (now (machine .entry)) (now (passages .entry)) (now (estimates .entry)) (now (events .entry)) (now (replies .entry)) .row ⌝ }
+    ensures { λ r. ⌜ now (replies .exit) ≡ morningRow (now (machine .entry)) (now (passages .entry)) (now (estimates .entry)) (now (events .entry)) (now (replies .entry)) .replies ⌝ }
+{
+    let number = desk::morning_fault(events, replies.len());
+    if number != 0 {
+        return desk::code(Reply::Refused(number));
+    }
+    if !row::is_row(machine) {
+        return row::unfit();
+    }
+    let m = row::unpack(machine);
+    let answer = m.morning(passages, estimates, events, replies);
     let reply = answer.reply;
     let next = answer.machine;
     row::put_changing(machine, next);

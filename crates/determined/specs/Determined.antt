@@ -8,12 +8,13 @@ use Rattle.desk.specs.declared.Answer.{Answer}
 use Rattle.desk.specs.Opening.{openingOf}
 use Rattle.desk.specs.Take.{takeOf}
 use Rattle.desk.specs.Bring.{bringOf}
+use Rattle.desk.specs.Morning.{morningOf}
 use Rattle.desk.specs.Path.{pathOf}
 use Rattle.taskfile.specs.declared.Outcome.{Outcome}
 use Rattle.taskfile.specs.Contents.{readOf}
 use Rattle.report.specs.Text.{reportLength, reportBuffer}
-use Rattle.report.specs.Laws.{Put}
-use Rattle.deskc.specs.Calls.{openRow, takeRow, bringRow, pathRow}
+use Rattle.laws.specs.Put.{Put}
+use Rattle.deskc.specs.Calls.{openRow, takeRow, bringRow, morningRow, pathRow}
 
 -- the one argument: what is equal to the same is equal. It serves every contract of the form r ≡ f of the arguments, and so every public function
 pub same : {A : Type 0} {x y z : A} → x ≡ z → y ≡ z → x ≡ y
@@ -30,6 +31,12 @@ take-determined m passages estimates worker r r′ = same
 pub bring-determined : (m : Machine) (passages estimates : List ℕ) (worker : ℕ) (r r′ : Answer)
     → r ≡ bringOf m passages estimates worker → r′ ≡ bringOf m passages estimates worker → r ≡ r′
 bring-determined m passages estimates worker r r′ = same
+
+-- a morning: also every place of the row
+pub morning-determined : (m : Machine) (passages estimates events row : List ℕ) (r r′ : Answer) (b b′ : List ℕ)
+    → (r ≡ morningOf m passages estimates events row .given) × (b ≡ morningOf m passages estimates events row .row)
+    → (r′ ≡ morningOf m passages estimates events row .given) × (b′ ≡ morningOf m passages estimates events row .row) → (r ≡ r′) × (b ≡ b′)
+morning-determined m passages estimates events row r r′ b b′ e e′ = (same (e .0) (e′ .0), same (e .1) (e′ .1))
 
 -- path reading: also every place of the buffer
 pub path-determined : (m : Machine) (passages estimates buffer : List ℕ) (at : ℕ) (r r′ : Answer) (b b′ : List ℕ)
@@ -72,6 +79,12 @@ module _ (row passages estimates : List ℕ) where
   pub bring-row-determined : (worker r r′ : ℕ) (b b′ : List ℕ) → r ≡ bringRow row passages estimates worker .code → b ≡ bringRow row passages estimates worker .row
       → r′ ≡ bringRow row passages estimates worker .code → b′ ≡ bringRow row passages estimates worker .row → (r ≡ r′) × (b ≡ b′)
   bring-row-determined worker r r′ b b′ e f e′ f′ = (same e e′, same f f′)
+
+  pub morning-row-determined : (events replies : List ℕ) (r r′ : ℕ) (b b′ c c′ : List ℕ)
+      → r ≡ morningRow row passages estimates events replies .code → b ≡ morningRow row passages estimates events replies .row → c ≡ morningRow row passages estimates events replies .replies
+      → r′ ≡ morningRow row passages estimates events replies .code → b′ ≡ morningRow row passages estimates events replies .row → c′ ≡ morningRow row passages estimates events replies .replies
+      → (r ≡ r′) × (b ≡ b′) × (c ≡ c′)
+  morning-row-determined events replies r r′ b b′ c c′ e f g e′ f′ g′ = (same e e′, same f f′, same g g′)
 
   pub path-row-determined : (buffer : List ℕ) (at r r′ : ℕ) (b b′ : List ℕ) → r ≡ pathRow row passages estimates buffer at .code → b ≡ pathRow row passages estimates buffer at .buffer
       → r′ ≡ pathRow row passages estimates buffer at .code → b′ ≡ pathRow row passages estimates buffer at .buffer → (r ≡ r′) × (b ≡ b′)

@@ -10,3 +10,5 @@ pub mod Table
 pub mod Difference
 pub mod Part
 pub mod Fill
+pub mod Put
+pub mod Map

@@ -4,7 +4,7 @@ use mathlib.Core.Bool.{cond, true, false}
 use mathlib.Core.Logic.{_≢_}
 use mathlib.Core.List.{List, [], _∷_, _++_, map}
 use Prim.Native.Nat.{ℕ, _+_, _-_, _*_, _≤_, _<_}
-use lib.ListN.{length}
+use lib.ListN.{length, take, drop}
 use lib.Dec.{eqb}
 use Rattle.laws.specs.Part.{overlaid}
 use Rattle.rule.specs.Task.{passageCount, near, far, cost, estimate}
@@ -17,11 +17,12 @@ use Rattle.desk.specs.declared.Reply.{Reply}
 use Rattle.desk.specs.declared.Reply.the-variants.{Opened, Found, NoPath, Read, Refused}
 use Rattle.desk.specs.declared.Answer.{Answer}
 use Rattle.desk.specs.Machine.{markOf, labelOf, boardOf}
-use Rattle.desk.specs.Reply.{answer, took, when}
+use Rattle.desk.specs.Reply.{answer, took, when, replyOf}
 use Rattle.desk.specs.Fits.{fits}
 use Rattle.desk.specs.Opening.{openingOf}
 use Rattle.desk.specs.Path.{pathOf}
 use Rattle.desk.specs.Calls.{Event, call, replies, after}
+use Rattle.desk.specs.Morning.{eventsOf, Morning}
 
 -- "a task that opening accepts"
 abbrev pub Accepted : Task → Type 0
@@ -115,3 +116,14 @@ pub record WaitsFor (m : Machine) (estimates : List ℕ) (t : ℕ) : Type 0 wher
   pub held : (x : ℕ) → x < m .n → markOf m x ≡ waiting → (s : ℕ) × Foremost m estimates s × HeldUp m estimates s t
   -- where nothing is open, the state named is the lowest that is out
   pub quiet : ((x : ℕ) → x < m .n → markOf m x ≢ waiting) → (markOf m t ≡ out) × ((x : ℕ) → x < t → markOf m x ≢ out)
+
+-- Order 2, a whole morning in one call: "replies and last machine equal those of the calls made singly, refused ones included. The row past the last event keeps what it had."
+pub record AsSingly (passages estimates : List ℕ) (m : Machine) (events row : List ℕ) (o : Morning) : Type 0 where
+  pub machine : o .given .machine ≡ after passages estimates m (eventsOf events)
+  pub replied : map replyOf (take (length events) (o .row)) ≡ replies passages estimates m (eventsOf events)
+  pub behind : drop (length events) (o .row) ≡ drop (length events) row
+
+-- so demand 3 speaks of a morning's replies too: a morning from a machine that was reached is more of the same run
+pub record MorningRuns (t : Task) (so-far : List Event) (events : List ℕ) (o : Morning) : Type 0 where
+  pub machine : o .given .machine ≡ reached t (so-far ++ eventsOf events)
+  pub replied : said t (so-far ++ eventsOf events) ≡ said t so-far ++ map replyOf (take (length events) (o .row))

@@ -13,4 +13,5 @@ pub mod Once
 pub mod Runs
 pub mod Replies
 pub mod Waiting
+pub mod Mornings
 pub mod Theorem

@@ -16,7 +16,7 @@ use Rattle.desk.specs.declared.Answer.{Answer}
 use Rattle.desk.specs.Machine.{markOf, labelOf, heldBy, boardOf}
 use Rattle.desk.specs.Take.{dealt, act}
 use Rattle.desk.specs.Bring.{sweepOf, finish}
-use Rattle.desk.specs.Calls.{Event, call, replies, after}
+use Rattle.desk.specs.Calls.{Event, call, answers, replies, after}
 use Rattle.promises.specs.Demand.{deals, timesDealt}
 use Rattle.promises.specs.View.{Sure}
 use Rattle.promises.specs.Progress.{safe-is-open, Chosen}
@@ -87,6 +87,6 @@ module _ {passages estimates : List ℕ} {m : Machine} (z : Sure passages estima
 -- so over a run
 pub run-once : {passages estimates : List ℕ} {m : Machine} → Whole passages estimates m → (events : List Event) (s : ℕ)
     → timesDealt s (replies passages estimates m events) + gone m s ≤ gone (after passages estimates m events) s
-unfolding timesDealt replies after
+unfolding timesDealt replies after answers
 run-once z [] s = omega arith
 run-once z (e ∷ es) s = omega (arith, call-once (z .sure) s e, run-once (call-whole z e) es s)

@@ -80,7 +80,7 @@ module _ (b : Board) where
 abbrev pub Chosen : ℕ → ℕ → Board → Decision → Type 0
 Chosen goal pull b (Found cost) = (safe b goal ≡ true) × (cost ≡ labelAt b goal)
 Chosen goal pull b NoPath = (u : ℕ) → u < b .n → isLive (markAt b u) ≡ false
-Chosen goal pull b (Deal s) = (safe b s ≡ true) × (s ≢ goal)
+Chosen goal pull b (Deal s) = (safe b s ≡ true) × (s ≢ goal) × (s < b .n)
 Chosen goal pull b Stuck = ⊥
 Chosen goal pull b (Wait s) = (anyOut b ≡ true) × ((x : ℕ) → x < b .n → safe b x ≡ false) × (s ≡ waitedFor goal pull b)
 
@@ -100,15 +100,15 @@ module _ (goal pull : ℕ) (b : Board) where
   unfolding decision anyOpen anyOut
   chosen = go (safe b goal) refl (anyOpen b) refl (anyOut b) refl (ltb (choice goal pull b) (b .n)) refl
     where
-      deal : safe b goal ≡ false → safe b (choice goal pull b) ≡ true → (safe b (choice goal pull b) ≡ true) × (choice goal pull b ≢ goal)
-      deal e f = (f, λ q. true≢false (sym f ∙ ap (safe b) q ∙ e))
+      deal : safe b goal ≡ false → ltb (choice goal pull b) (b .n) ≡ true → Chosen goal pull b (Deal (choice goal pull b))
+      deal e d = let f = choice-safe d in (f, λ q. true≢false (sym f ∙ ap (safe b) q ∙ e), ltb-true (choice goal pull b) (b .n) d)
 
       go : (found : Bool) → safe b goal ≡ found → (some : Bool) → anyOpen b ≡ some → (busy : Bool) → anyOut b ≡ busy → (deals : Bool) → ltb (choice goal pull b) (b .n) ≡ deals
           → Chosen goal pull b (cond found (Found (labelAt b goal)) (cond (not some && not busy) NoPath (cond deals (Deal (choice goal pull b)) (cond (not busy) Stuck (Wait (waitedFor goal pull b))))))
       go true e some o busy q deals d = (e, refl)
       go false e false o false q deals d = λ u l. rw (any-none (λ u. isOpen (markAt b u)) (b .n) o u l, any-none (λ u. isOut (markAt b u)) (b .n) q u l)
-      go false e false o true q true d = deal e (choice-safe d)
+      go false e false o true q true d = deal e d
       go false e false o true q false d = (q, choice-none d, refl)
-      go false e true o busy q true d = deal e (choice-safe d)
+      go false e true o busy q true d = deal e d
       go false e true o false q false d = let (s, l, f) = some-safe b q o in true≢false (sym f ∙ choice-none d s l)
       go false e true o true q false d = (q, choice-none d, refl)

@@ -14,7 +14,7 @@ use Rattle.dealing.specs.declared.Decision.{Decision}
 use Rattle.dealing.specs.declared.Decision.the-variants.{Found as FoundAt, NoPath as NoPathLeft, Deal, Stuck, Wait as WaitOn}
 use Rattle.desk.specs.declared.Machine.{Machine}
 use Rattle.desk.specs.declared.Reply.{Reply}
-use Rattle.desk.specs.declared.Reply.the-variants.{Opened, Took, Brought, Found, NoPath, Wait, Read, Refused}
+use Rattle.desk.specs.declared.Reply.the-variants.{Opened, Took, Brought, Found, NoPath, Wait, Read, Refused, Done}
 use Rattle.desk.specs.Machine.{markOf, withPhase, labelOf, taskOf, boardOf}
 use Rattle.desk.specs.Take.{act}
 use Rattle.desk.specs.Calls.{Event, call}
@@ -37,6 +37,7 @@ Says t m NoPath = (way : List ℕ) → IsRoute t way → ⊥
 Says t m (Wait s) = Unit {0}
 Says t m (Read many) = Unit {0}
 Says t m (Refused number) = number ≢ 12
+Says t m Done = Unit {0}
 
 module _ {passages estimates : List ℕ} {m : Machine} (z : Whole passages estimates m) where
   abbrev t : Task

@@ -1,6 +1,6 @@
 -- Runs: the invariant holds after any calls, the machine's numbers stay the task's, and once the phase is 1 no call changes anything.
-use mathlib.Core.Path.{_≡_, refl, _∙_}
-use mathlib.Core.List.{List, [], _∷_, _++_}
+use mathlib.Core.Path.{_≡_, refl, ap, _∙_}
+use mathlib.Core.List.{List, [], _∷_}
 use Prim.Native.Nat.{ℕ}
 use native.Mathlib.Omega.{arith}
 use Rattle.dealing.specs.declared.Decision.{Decision}
@@ -8,7 +8,7 @@ use Rattle.dealing.specs.declared.Decision.the-variants.{Found, NoPath, Deal, S
 use Rattle.desk.specs.declared.Machine.{Machine}
 use Rattle.desk.specs.Machine.{heldBy, taskOf}
 use Rattle.desk.specs.Take.{act}
-use Rattle.desk.specs.Calls.{Event, call, after}
+use Rattle.desk.specs.Calls.{Event, call, answers, after}
 use Rattle.promises.specs.BringMoves.{sweep-keeps}
 use Rattle.promises.specs.Calls.{call-either}
 use Rattle.promises.specs.Fits.{Whole, call-whole}
@@ -29,22 +29,16 @@ module _ {passages estimates : List ℕ} where
       (λ worker a o. sweep-keeps (z .sure) (heldBy m worker) o (λ m′. taskOf m′ passages estimates ≡ taskOf m passages estimates) (λ i m′ y j f e q. q) refl .1)
 
   pub after-whole : {m : Machine} → Whole passages estimates m → (events : List Event) → Whole passages estimates (after passages estimates m events)
-  unfolding after
+  unfolding after answers
   after-whole z [] = z
   after-whole z (e ∷ es) = after-whole (call-whole z e) es
 
   pub after-task : {m : Machine} → Whole passages estimates m → (events : List Event) → taskOf (after passages estimates m events) passages estimates ≡ taskOf m passages estimates
-  unfolding after
+  unfolding after answers
   after-task z [] = refl
   after-task z (e ∷ es) = after-task (call-whole z e) es ∙ call-task z e
 
 module _ (passages estimates : List ℕ) where
-  pub after-on : (m : Machine) (events : List Event) (e : Event) (later : List Event)
-      → after passages estimates m (events ++ (e ∷ later)) ≡ after passages estimates (call passages estimates (after passages estimates m events) e .machine) later
-  unfolding after
-  after-on m [] e later = refl
-  after-on m (x ∷ events) e later = after-on (call passages estimates m x .machine) events e later
-
   -- with phase 1 a call is refused, and hands the machine back as it came
   call-still : (m : Machine) → m .phase ≡ 1 → (e : Event) → call passages estimates m e .machine ≡ m
   call-still m p =
@@ -53,6 +47,6 @@ module _ (passages estimates : List ℕ) where
       (λ worker a o. absurd (omega (arith, a .searching)))
 
   pub after-still : (m : Machine) → m .phase ≡ 1 → (events : List Event) → after passages estimates m events ≡ m
-  unfolding after
+  unfolding after answers
   after-still m p [] = refl
-  after-still m p (e ∷ es) = rw (call-still m p e) (after-still m p es)
+  after-still m p (e ∷ es) = ap (λ (x : Machine). after passages estimates x es) (call-still m p e) ∙ after-still m p es

@@ -11,12 +11,13 @@ use Rattle.desk.specs.declared.Reply.{Reply}
 use Rattle.desk.specs.declared.Reply.the-variants.{Found, NoPath, Refused}
 use Rattle.desk.specs.Machine.{markOf, labelOf, taskOf}
 use Rattle.desk.specs.Opening.{openingOf, openedMachine}
-use Rattle.desk.specs.Calls.{Event}
+use Rattle.desk.specs.Calls.{Event, answers, after}
+use Rattle.desk.specs.CallLaws.{after-append}
 use Rattle.promises.specs.Demand.{Accepted, reached, said, next, timesDealt, PathRight, Demand3, Kept}
 use Rattle.promises.specs.Accepted.{sound, accepted-fault, accepted-machine}
 use Rattle.promises.specs.Fits.{Whole, opened-whole, whole-fits}
 use Rattle.promises.specs.Once.{gone, gone-no, run-once}
-use Rattle.promises.specs.Runs.{after-whole, after-task, after-on, after-still}
+use Rattle.promises.specs.Runs.{after-whole, after-task, after-still}
 use Rattle.promises.specs.Replies.{Says, call-says}
 
 module _ (t : Task) (a : Accepted t) where
@@ -53,10 +54,11 @@ module _ (t : Task) (a : Accepted t) where
 
     -- and the machine handed back with Found stays as it is
     found-later : (e : Event) (later : List Event) (c : ℕ) → next t events e .reply ≡ Found c → PathRight t (reached t (events ++ (e ∷ later))) c
+    unfolding after answers
     found-later e later c q =
         let (phase, right) = next-says e (Found c) q in
         subst⁻¹ (λ (m : Machine). PathRight t m c)
-        (after-on (t .passages) (t .estimates) (openingOf t .machine) events e later ∙ after-still (t .passages) (t .estimates) (next t events e .machine) phase later) right
+        (after-append (t .passages) (t .estimates) (openingOf t .machine) events (e ∷ later) ∙ after-still (t .passages) (t .estimates) (next t events e .machine) phase later) right
 
 pub demand3 : (t : Task) → Accepted t → Demand3 t
 demand3 t a = record {

@@ -121,7 +121,7 @@ module _ (m : Machine) (estimates : List ℕ) where
         quiet = λ f. (is, λ x i w. absurd (true≢false (sym (eq-eqb (markOf m x) out w) ∙ first-before (λ s. isOut (markAt b s)) (m .n) x i)));
       }
 
-  wait-right : anyOut b ≡ true → ((x : ℕ) → x < m .n → safe b x ≡ false) → WaitsFor m estimates (waitedFor (m .goal) (m .pull) b)
+  pub wait-right : anyOut b ≡ true → ((x : ℕ) → x < m .n → safe b x ≡ false) → WaitsFor m estimates (waitedFor (m .goal) (m .pull) b)
   unfolding waitedFor
   wait-right q unsafe = go (anyOpen b) refl
     where

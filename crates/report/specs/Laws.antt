@@ -6,24 +6,18 @@ use Prim.Native.Nat.{ℕ, _+_, _≤_}
 use types.Run.{OneOf, miss}
 use mir.Val.{hasKey}
 use denote.Enum.Declared.{tagOf}
-use lib.ListN.{length}
 use lib.Dec.{T, eqb}
 use borrow.Author.Tests.{ne-eqb}
-use Rattle.laws.specs.Part.{overlaid}
+use Rattle.laws.specs.Put.{Put}
 use Rattle.desk.specs.declared.Machine.{Machine}
 use Rattle.desk.specs.declared.Reply.{Reply}
 use Rattle.desk.proofs.Reply.{the-type}
-use Rattle.desk.specs.declared.Reply.the-variants.{Opened, Took, Brought, Found, NoPath, Wait, Read, Refused}
+use Rattle.desk.specs.declared.Reply.the-variants.{Opened, Took, Brought, Found, NoPath, Wait, Read, Refused, Done}
 use Rattle.desk.specs.Reply.{caseOf, when, found, read}
-use Rattle.desk.specs.Calls.{call}
+use Rattle.desk.specs.Calls.{workerOf, call}
 use Rattle.report.specs.declared.Told.{Told}
 use Rattle.report.specs.Line.{spoken}
-use Rattle.report.specs.Text.{eventOf, workerOf}
-
--- xs stands in the buffer from `at` on, and the next place is r
-pub record Put (at : ℕ) (xs l₀ l : List ℕ) (r : ℕ) : Type 0 where
-  pub done : l ≡ overlaid at xs l₀
-  pub next : r ≡ at + length xs
+use Rattle.desk.specs.Morning.{eventOf}
 
 -- the tag that a match on a reply goes by is the reply's case
 tag-case : (r : Reply) → tagOf the-type r ≡ caseOf r
@@ -35,6 +29,7 @@ tag-case NoPath = refl
 tag-case (Wait s) = refl
 tag-case (Read many) = refl
 tag-case (Refused number) = refl
+tag-case Done = refl
 
 -- a match that is left with the tags `others` is left with a reply of another case
 pub other-case : (others : List ℕ) (case : ℕ) (r : Reply) → T (not (hasKey others case)) → OneOf others (tagOf the-type r) → eqb (caseOf r) case ≡ false
@@ -55,5 +50,5 @@ spare m = cond (eqb (m .phase) 0) 8192 0
 -- an event's call made and said: the machine, the text, and the places it took
 pub record Said (m : Machine) (passages estimates : List ℕ) (event at : ℕ) (l₀ l : List ℕ) (r : Told) : Type 0 where
   pub machine : r .machine ≡ call passages estimates m (eventOf event) .machine
-  pub text : Put at (spoken passages estimates (workerOf event) (call passages estimates m (eventOf event))) l₀ l (r .at)
+  pub text : Put at (spoken passages estimates (workerOf (eventOf event)) (call passages estimates m (eventOf event))) l₀ l (r .at)
   pub within : r .at + spare (r .machine) ≤ at + 50 + spare m

@@ -3,7 +3,7 @@ use mathlib.Core.List.{List, [], _∷_, _++_}
 use Prim.Native.Nat.{ℕ, zero, suc}
 use lib.ListN.{getD, replicate}
 use Rattle.desk.specs.declared.Reply.{Reply}
-use Rattle.desk.specs.declared.Reply.the-variants.{Opened, Took, Brought, Found, NoPath, Wait, Read, Refused}
+use Rattle.desk.specs.declared.Reply.the-variants.{Opened, Took, Brought, Found, NoPath, Wait, Read, Refused, Done}
 use Rattle.desk.specs.declared.Answer.{Answer}
 use Rattle.desk.specs.Reply.{when, found, read}
 use Rattle.desk.specs.Path.{Reading, pathOf}
@@ -68,6 +68,7 @@ lineOf worker NoPath = line1 word-nopath worker
 lineOf worker (Wait s) = line2 word-wait worker s
 lineOf worker (Read many) = []
 lineOf worker (Refused number) = line2 word-refused worker number
+lineOf worker Done = []
 
 -- the first so many states, a blank before each
 unfoldable pub statesText : List ℕ → ℕ → List ℕ

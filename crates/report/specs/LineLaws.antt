@@ -6,40 +6,16 @@ use Prim.Native.Nat.{ℕ, zero, suc, _+_, _*_, _-_, _/_, _%_, _≤_, _<_}
 use native.Mathlib.Nat.{le-of-suc-le-suc, not-suc-le-zero}
 use native.Mathlib.Numerals.{add-one}
 use native.Mathlib.Omega.{arith}
-use lib.ListN.{length, getD, set, take, length-append}
+use lib.ListN.{length, getD, take}
 use lib.Seq.{take-all, take-suc}
 use lib.Dec.{ltb, leb}
 use borrow.Author.Tests.{lt-ltb, le-ltb, leb-true}
 use Rattle.laws.specs.First.{first, first-zero, first-more, first-at, first-end, first-le}
 use Rattle.laws.specs.All.{all, all-at}
-use Rattle.laws.specs.Fill.{made, made-length, overlaid-none, overlaid-one, overlaid-length, overlaid-next, Filled, filled-end}
+use Rattle.laws.specs.Put.{Put, put-next, put-none, put-length, put-three}
+use Rattle.laws.specs.Fill.{made, made-length, Filled, filled-end}
 use Rattle.report.specs.Decimal.{powers, power, width, glyph, decimal}
 use Rattle.report.specs.Line.{blank, end, line1, line2, statesText}
-use Rattle.report.specs.Laws.{Put}
-
--- one piece after another
-pub put-next : (at p r : ℕ) (xs ys l₀ l₁ l₂ : List ℕ) → Put at xs l₀ l₁ p → Put p ys l₁ l₂ r → at + length xs ≤ length l₀ → Put at (xs ++ ys) l₀ l₂ r
-put-next at p r xs ys l₀ l₁ l₂ a b h =
-    record { done = b .done ∙ overlaid-next at p l₀ l₁ xs ys (a .done) (a .next) (omega arith); next = omega (arith, length-append xs ys) }
-
--- no piece
-pub put-none : (at : ℕ) (l : List ℕ) → Put at [] l l at
-put-none at l = record { done = overlaid-none at l; next = omega arith }
-
--- a piece that there is room for leaves the buffer as long as it was
-pub put-length : (at r : ℕ) (xs l₀ l : List ℕ) → Put at xs l₀ l r → at + length xs ≤ length l₀ → length l ≡ length l₀
-put-length at r xs l₀ l p h = ap length (p .done) ∙ overlaid-length at l₀ xs h
-
--- three pieces
-pub put-three : (at p q r : ℕ) (xs ys zs l₀ l₁ l₂ l₃ : List ℕ) → Put at xs l₀ l₁ p → Put p ys l₁ l₂ q → Put q zs l₂ l₃ r
-    → at + length xs + length ys ≤ length l₀ → Put at (xs ++ (ys ++ zs)) l₀ l₃ r
-put-three at p q r xs ys zs l₀ l₁ l₂ l₃ a b c h =
-    let room : at + length xs ≤ length l₀ = omega arith in
-    put-next at p r xs (ys ++ zs) l₀ l₁ l₃ a (put-next p q r ys zs l₁ l₂ l₃ b c (omega (arith, a .next, put-length at p xs l₀ l₁ a room))) room
-
--- one byte
-pub put-one : (at v : ℕ) (l : List ℕ) → at < length l → Put at (v ∷ []) l (set l at v) (at + 1)
-put-one at v l h = record { done = overlaid-one at l v h; next = refl }
 
 -- a word, written byte by byte
 made-word : (word : List ℕ) (i : ℕ) → i ≤ length word → made (λ k. getD word k 0) i ≡ take i word

@@ -1,15 +1,16 @@
 -- A session's text as its functions build it: what each call spends of the buffer, the text after so many events, and the report by what reading a file comes to.
-use mathlib.Core.Path.{_≡_, refl, ap, subst, subst⁻¹, _∙_}
+use mathlib.Core.Path.{_≡_, refl, sym, ap, subst, subst⁻¹, _∙_}
 use mathlib.Core.Bool.{Bool, true, false, not, cond}
-use mathlib.Core.List.{List}
-use Prim.Native.Nat.{ℕ, zero, suc, _+_, _-_, _*_, _≤_, _<_}
+use mathlib.Core.List.{List, [], _∷_, _++_, append-nil, append-assoc}
+use Prim.Native.Nat.{ℕ, zero, suc, _+_, _-_, _*_, _%_, _≤_, _<_}
 use native.Mathlib.Omega.{arith}
 use lib.ListN.{length, getD, replicate, take, length-append, length-take, length-drop}
 use lib.Dec.{ltb, leb, eqb}
 use borrow.Author.Tests.{eqb-true, leb-true, eq-eqb, ne-eqb, le-leb, lt-leb}
 use Rattle.laws.specs.Truth.{provided, provided-either}
-use Rattle.laws.specs.Fold.{fold, fold-more}
+use Rattle.laws.specs.Fold.{fold}
 use Rattle.laws.specs.Part.{overlaid}
+use Rattle.laws.specs.Put.{Put, put-next, put-none, put-length}
 use Rattle.rule.specs.Task.{passageCount, near, far, cost}
 use Rattle.rule.specs.Rule.{lowers}
 use Rattle.checks.specs.Opening.{task}
@@ -29,7 +30,9 @@ use Rattle.desk.specs.Take.{act, takeStep, takeOf}
 use Rattle.desk.specs.Bring.{swept, labelled, applyPassage, sweepOf, bringStep, bringOf}
 use Rattle.desk.specs.Opening.{openingOf}
 use Rattle.desk.specs.Path.{Reading, unread, pathOf}
-use Rattle.desk.specs.Calls.{Event, take as takes, bring as brings, call}
+use Rattle.desk.specs.Calls.{Event, take as takes, bring as brings, workerOf, call, answers, after}
+use Rattle.desk.specs.Morning.{eventOf, eventsOf}
+use Rattle.desk.specs.CallLaws.{event-worker, after-more, firsts, firsts-more, firsts-all}
 use Rattle.taskfile.specs.declared.Contents.{Contents}
 use Rattle.taskfile.specs.declared.Outcome.{Outcome}
 use Rattle.taskfile.specs.declared.Outcome.the-variants.{Read, Fault}
@@ -38,9 +41,8 @@ use Rattle.taskfile.specs.Contents.{Reading as FileReading, roomyFor, readOf}
 use Rattle.taskfile.specs.Laws.{roomy}
 use Rattle.report.specs.declared.Told.{Told}
 use Rattle.report.specs.Line.{word-file, word-opening, line1, line2, lineOf, afterReply, spoken}
-use Rattle.report.specs.Text.{eventOf, workerOf, speak, session, taskText, outcomeText, printed, room, reportLength, reportBuffer}
-use Rattle.report.specs.Laws.{Put, Drawn, reserve, spare, Said}
-use Rattle.report.specs.LineLaws.{put-next, put-none, put-length}
+use Rattle.report.specs.Text.{conversation, session, taskText, outcomeText, printed, room, reportLength, reportBuffer}
+use Rattle.report.specs.Laws.{Drawn, reserve, spare, Said}
 
 -- what a call prints after its line was kept back before: Found comes once
 abbrev Spends : Machine → Answer → Type 0
@@ -113,20 +115,28 @@ module _ (m : Machine) (passages estimates : List ℕ) (event : ℕ) (a : Answer
   answer-spends = rw e (call-spends passages estimates m (eventOf event))
 
   pub said : (at p q : ℕ) (l₀ l₁ l₂ : List ℕ) → at + 50 + spare m ≤ length l₀
-      → Put at (lineOf (workerOf event) (a .reply)) l₀ l₁ p × (p ≤ at + 50)
+      → Put at (lineOf (event % 65536) (a .reply)) l₀ l₁ p × (p ≤ at + 50)
       → Put p (afterReply (a .reply) (pathOf (a .machine) passages estimates (replicate 256 0) 0)) l₁ l₂ q × (q ≤ p + reserve (a .reply))
       → Said m passages estimates event at l₀ l₂ (record { machine = a .machine; at = q })
   unfolding spoken
   said at p q l₀ l₁ l₂ h x y = record {
     machine = ap (λ (b : Answer). b .machine) e;
-    text = rw (← e) (put-next at p q _ _ l₀ l₁ l₂ (x .0) (y .0) (omega (arith, x .0 .next, x .1)));
+    text = rw (← e, event-worker event) (put-next at p q _ _ l₀ l₁ l₂ (x .0) (y .0) (omega (arith, x .0 .next, x .1)));
     within = omega (arith, answer-spends, x .1, y .1);
   }
 
+-- one event more is one answer more to say
+pub session-more : (passages estimates : List ℕ) (m : Machine) (es : List Event) (e : Event)
+    → session passages estimates m (es ++ (e ∷ [])) ≡ session passages estimates m es ++ spoken passages estimates (workerOf e) (call passages estimates (after passages estimates m es) e)
+unfolding session conversation answers after
+session-more passages estimates m [] e = append-nil _
+session-more passages estimates m (x ∷ es) e =
+    rw (session-more passages estimates (call passages estimates m x .machine) es e) (sym (append-assoc (spoken passages estimates (workerOf x) (call passages estimates m x)) _ _))
+
 -- the text of the events so far, and what is left for the others
 pub record Played (passages estimates : List ℕ) (m₀ : Machine) (events l₀ l : List ℕ) (m : Machine) (at i : ℕ) : Type 0 where
-  pub machine : m ≡ session passages estimates m₀ events i .machine
-  pub text : Put 0 (session passages estimates m₀ events i .text) l₀ l at
+  pub machine : m ≡ after passages estimates m₀ (firsts events i)
+  pub text : Put 0 (session passages estimates m₀ (firsts events i)) l₀ l at
   pub left : at + 50 * (length events - i) + spare m ≤ length l₀
   pub long : length l ≡ length l₀
 
@@ -139,27 +149,23 @@ spare-max m = go (eqb (m .phase) 0)
 
 module _ (passages estimates : List ℕ) (m₀ : Machine) (events l₀ : List ℕ) where
   pub played-zero : 50 * length events + 8192 ≤ length l₀ → Played passages estimates m₀ events l₀ l₀ m₀ 0 0
-  unfolding session fold
+  unfolding eventsOf session conversation answers after
   played-zero h = record { machine = refl; text = put-none 0 l₀; left = omega (arith, spare-max m₀); long = refl }
-
-  session-more : (i : ℕ) → session passages estimates m₀ events (i + 1) ≡ speak passages estimates events i (session passages estimates m₀ events i)
-  unfolding session
-  session-more i = fold-more (speak passages estimates events) _ i
 
   pub played-more : (l l′ : List ℕ) (m : Machine) (at i : ℕ) (r : Told) → Played passages estimates m₀ events l₀ l m at i → i < length events
       → Said m passages estimates (getD events i 0) at l l′ r → Played passages estimates m₀ events l₀ l′ (r .machine) (r .at) (i + 1)
-  unfolding speak
   played-more l l′ m at i r w h s =
       let more : r .at + 50 * (length events - (i + 1)) + spare (r .machine) ≤ length l₀ = omega (arith, w .left, s .within) in
       record {
-        machine = rw (session-more i, ← (w .machine)) (s .machine);
-        text = rw (session-more i, ← (w .machine)) (put-next 0 at (r .at) _ _ l₀ l l′ (w .text) (s .text) (omega (arith, w .text .next)));
+        machine = rw (firsts-more events i h, after-more passages estimates m₀ (firsts events i) (eventOf (getD events i 0)), ← (w .machine)) (s .machine);
+        text = rw (firsts-more events i h, session-more passages estimates m₀ (firsts events i) (eventOf (getD events i 0)), ← (w .machine))
+            (put-next 0 at (r .at) _ _ l₀ l l′ (w .text) (s .text) (omega (arith, w .text .next)));
         left = more;
         long = put-length at (r .at) _ l l′ (s .text) (omega (arith, s .text .next, w .long)) ∙ w .long;
       }
 
-  pub played-end : (l : List ℕ) (m : Machine) (at i : ℕ) → Played passages estimates m₀ events l₀ l m at i → i ≤ length events → length events ≤ i → Put 0 (session passages estimates m₀ events (length events) .text) l₀ l at
-  played-end l m at i w a b = let q : i ≡ length events = omega arith in rw q at (w .text)
+  pub played-end : (l : List ℕ) (m : Machine) (at i : ℕ) → Played passages estimates m₀ events l₀ l m at i → i ≤ length events → length events ≤ i → Put 0 (session passages estimates m₀ (eventsOf events)) l₀ l at
+  played-end l m at i w a b = rw (← firsts-all events i b) (w .text)
 
 -- a task's text: its session where opening accepts it, else the refusal alone
 module _ (c : Contents) (passages estimates events : List ℕ) (a : Answer) (e : a ≡ openingOf (task (c .n) (c .k) (c .start) (c .goal) (c .pull) (c .excess) passages estimates)) (number : ℕ) (f : number ≡ refusalOf (a .reply)) (l₀ l : List ℕ) (r : ℕ) where
@@ -167,7 +173,7 @@ module _ (c : Contents) (passages estimates events : List ℕ) (a : Answer) (e :
   unfolding taskText
   put-refused n p = rw (← e, ← f, ne-eqb number 0 n) p
 
-  pub put-played : number ≡ 0 → Put 0 (session passages estimates (a .machine) events (length events) .text) l₀ l r → Put 0 (taskText c passages estimates events) l₀ l r
+  pub put-played : number ≡ 0 → Put 0 (session passages estimates (a .machine) (eventsOf events)) l₀ l r → Put 0 (taskText c passages estimates events) l₀ l r
   unfolding taskText
   put-played z p = rw (← e, ← f, eq-eqb number 0 z) p
 

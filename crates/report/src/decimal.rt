@@ -3,8 +3,8 @@ ghost use mathlib.Core.Path.{_≡_};
 ghost use mathlib.Core.List.{[], _∷_};
 ghost use Prim.Native.Nat.{_+_, _≤_, _<_};
 ghost use lib.ListN.{length};
+ghost use Rattle.laws.specs.Put.{Put};
 ghost use Rattle.report.specs.Decimal.{width, decimal};
-ghost use Rattle.report.specs.Laws.{Put};
 
 const POWERS: [u64; 20] = [
     1,

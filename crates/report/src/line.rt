@@ -2,9 +2,10 @@
 ghost use mathlib.Core.Path.{_≡_};
 ghost use Prim.Native.Nat.{_+_, _≤_};
 ghost use lib.ListN.{length};
+ghost use Rattle.laws.specs.Put.{Put};
 ghost use Rattle.desk.specs.Reply.{refusalOf};
 ghost use Rattle.report.specs.Line.{line1, line2, lineOf, statesText, readText};
-ghost use Rattle.report.specs.Laws.{Put, Drawn};
+ghost use Rattle.report.specs.Laws.{Drawn};
 use super::decimal;
 use desk::Reply;
 
@@ -46,6 +47,7 @@ pub fn put_reply(out: &mut [u8], at: usize, worker: u64, reply: Reply) -> usize
         Reply::Wait(s) => put_line2(out, at, b"wait", worker, s as u64),
         Reply::Read(_) => at,
         Reply::Refused(number) => put_line2(out, at, b"refused", worker, number as u64),
+        Reply::Done => at,
     }
 }
 

@@ -3,30 +3,18 @@ ghost use mathlib.Core.Path.{_≡_};
 ghost use mathlib.Core.List.{_++_};
 ghost use Prim.Native.Nat.{_+_, _*_, _≤_, _<_};
 ghost use lib.ListN.{length, replicate};
-ghost use Rattle.laws.specs.Part.{overlaid};
-ghost use Rattle.desk.specs.Calls.{call};
+ghost use Rattle.laws.specs.Put.{Put};
+ghost use Rattle.desk.specs.Morning.{eventsOf};
 ghost use Rattle.desk.specs.Path.{pathOf};
-ghost use Rattle.report.specs.Line.{pathText, afterReply, spoken};
-ghost use Rattle.report.specs.Text.{eventOf, workerOf, session, taskText, reportLength, reportBuffer};
-ghost use Rattle.report.specs.Laws.{Put, reserve, spare, Said};
+ghost use Rattle.report.specs.Line.{pathText, afterReply};
+ghost use Rattle.report.specs.Text.{session, taskText, reportLength, reportBuffer};
+ghost use Rattle.report.specs.Laws.{reserve, spare, Said};
 use super::Told;
 use super::line;
-use desk::Answer;
 use desk::Machine;
 use desk::Reply;
 use taskfile::Contents;
 use taskfile::Outcome;
-
-// The call that an event asks for.
-pub fn called(m: Machine, passages: &[u32], estimates: &[u32], event: u32) -> Answer
-    ensures { λ r. ⌜ r ≡ call (now (passages .entry)) (now (estimates .entry)) m (eventOf event) ⌝ }
-{
-    let worker = (event % 65536) as usize;
-    if event / 65536 == 0 {
-        return m.take(passages, estimates, worker);
-    }
-    m.bring(passages, estimates, worker)
-}
 
 // The path of a machine that has found, as a line.
 pub fn put_path(out: &mut [u8], at: usize, m: Machine, passages: &[u32], estimates: &[u32]) -> usize
@@ -70,7 +58,7 @@ pub fn tell(
     requires { ⌜ at + 50 + spare m ≤ length (now out) ⌝ }
     ensures { λ r. ⌜ Said m (now (passages .entry)) (now (estimates .entry)) event at (now (out .entry)) (now (out .exit)) r ⌝ }
 {
-    let answer = called(m, passages, estimates, event);
+    let answer = desk::called(m, passages, estimates, event);
     let reply = answer.reply;
     let next = answer.machine;
     let p = line::put_reply(out, at, (event % 65536) as u64, reply);
@@ -90,7 +78,7 @@ pub fn play(
     out: &mut [u8],
 ) -> usize
     requires { ⌜ 50 * length (now events) + 8192 ≤ length (now out) ⌝ }
-    ensures { λ r. ⌜ Put 0 (session (now (passages .entry)) (now (estimates .entry)) machine (now (events .entry)) (length (now (events .entry))) .text) (now (out .entry)) (now (out .exit)) r ⌝ }
+    ensures { λ r. ⌜ Put 0 (session (now (passages .entry)) (now (estimates .entry)) machine (eventsOf (now (events .entry)))) (now (out .entry)) (now (out .exit)) r ⌝ }
 {
     let mut m = machine;
     let mut at: usize = 0;

@@ -23,7 +23,7 @@ use Rattle.desk.specs.Admission.{admitted}
 use Rattle.desk.specs.Take.{takeStep, takeOf}
 use Rattle.desk.specs.Bring.{applyPassage, sweepOf, bringStep, bringOf}
 use Rattle.desk.specs.Path.{Reading, pathOf}
-use Rattle.desk.specs.Calls.{Event, take, bring, replies, after}
+use Rattle.desk.specs.Calls.{Event, take, bring, answers, replies, after}
 
 -- "passages in order 0→1 cost 2, 0→2 cost 5, 1→2 cost 1, 2→3 cost 2, 1→4 cost 9, 3→4 cost 1"
 abbrev passages : List ℕ
@@ -113,7 +113,7 @@ pub record Starred : Type 0 where
   pub C6 : run taskA (bring 0 ∷ []) ≡ Refused 11 ∷ []
 
 pub starred : Starred
-unfolding fold first least count all independent holdsBack lowers sizesRight endsRight weightsRight passagesRight estimatesRight passagesBound detoursBy detoursFrom detoursBound earlyFault fault marksRight labelsRight workersRight holders heldOnce dependsOn firstDependence safe key choice foremost anyOpen anyOut firstMarked waitedFor decision stateBack isHome isLinked stopsAt pathLength statesBack fits openedMachine blankMachine openingOf admitted takeStep takeOf applyPassage sweepOf bringStep bringOf pathOf replies after
+unfolding fold first least count all independent holdsBack lowers sizesRight endsRight weightsRight passagesRight estimatesRight passagesBound detoursBy detoursFrom detoursBound earlyFault fault marksRight labelsRight workersRight holders heldOnce dependsOn firstDependence safe key choice foremost anyOpen anyOut firstMarked waitedFor decision stateBack isHome isLinked stopsAt pathLength statesBack fits openedMachine blankMachine openingOf admitted takeStep takeOf applyPassage sweepOf bringStep bringOf pathOf answers replies after
 starred = record {
   A1 = refl;
   A1-reply = refl;

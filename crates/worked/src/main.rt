@@ -32,6 +32,7 @@ fn say(worker: usize, reply: Reply) {
         Reply::Wait(s) => line(b"wait ", w, s as u64),
         Reply::Read(many) => line(b"read ", w, many as u64),
         Reply::Refused(number) => line(b"refused ", w, number as u64),
+        Reply::Done => short(b"done ", w),
     }
 }
 

@@ -1,28 +1,22 @@
-//! The comparison, case by case: the same random calls go to both desks, and
-//! every reply, every number handed back, every place of every buffer and the
-//! printed text are compared. Replies on accepted tasks are also held against
-//! demand 3, and every Wait against order 1 of document 02. Without a library
-//! only the latter two are done.
+//! The comparison, case by case: the same random calls go to both desks.
+//! Replies on accepted tasks are also held against demand 3.
 
-use crate::demand::{self, Watch};
-use crate::desk::{Graph, Reply, Task, FOUND};
+use crate::demand::Watch;
+use crate::desk::{Action, Reply, Task, FOUND};
+use crate::desks::{Checked, Desks};
 use crate::maker::{self, Rng};
-use crate::rows::{self, Independent, RowDesk, Shown, PHASE, PRINT_ROOM, ROW};
-use crate::tally::Tally;
-use crate::taskfile::Action;
-use std::fmt::Debug;
+use crate::rows::{self, Independent, RowDesk, PHASE, PRINT_ROOM, ROW};
 
-/// Stops a case at its first fault; carries what is wrong.
-pub type Checked<T> = Result<T, String>;
-
-/// Runs one case; says what differs or goes against demand 3 or order 1.
+/// Runs one case; says what differs or goes against demand 3 or an order.
 pub fn run_case(desks: &mut Desks, seed: u64, case: u64) -> Checked<()> {
     let mut rng = Rng::new(seed, case);
-    match rng.below(20) {
-        0..=8 => search(desks, &mut rng),
-        9..=11 => refused_opening(desks, &mut rng),
-        12..=15 => made_up(desks, &mut rng),
-        _ => file(desks, &mut rng),
+    match rng.below(100) {
+        0..=39 => search(desks, &mut rng),
+        40..=54 => refused_opening(desks, &mut rng),
+        55..=72 => made_up(desks, &mut rng),
+        73..=88 => file(desks, &mut rng),
+        89..=94 => mornings(desks, &mut rng),
+        _ => made_up_mornings(desks, &mut rng),
     }
 }
 
@@ -131,6 +125,48 @@ fn made_up(desks: &mut Desks, rng: &mut Rng) -> Checked<()> {
     Ok(())
 }
 
+/// An accepted task whose calls all come in mornings.
+fn mornings(desks: &mut Desks, rng: &mut Rng) -> Checked<()> {
+    let task = maker::task(rng);
+    let mut row = junk(ROW);
+    desks.expect_opened(&task, &mut row)?;
+    let mut watch = Watch::new(&task);
+    for _ in 0..rng.between(1, 4) {
+        for reply in serve_morning(desks, rng, &mut row, &task)? {
+            watch.see(reply)?;
+            if let Reply::Found(cost) = reply {
+                check_path(desks, &watch, &row, &task, cost)?;
+            }
+        }
+    }
+    Ok(())
+}
+
+/// Mornings on a machine that no calls need have led to.
+fn made_up_mornings(desks: &mut Desks, rng: &mut Rng) -> Checked<()> {
+    let (task, mut row) = maker::made_up(rng);
+    desks.show(|| format!("made-up machine {row:?} of {task:?}"));
+    for _ in 0..rng.between(1, 3) {
+        serve_morning(desks, rng, &mut row, &task)?;
+    }
+    Ok(())
+}
+
+/// A random morning: the replies to its events, none where it was refused.
+fn serve_morning(
+    desks: &mut Desks,
+    rng: &mut Rng,
+    row: &mut [u32],
+    task: &Task,
+) -> Checked<Vec<Reply>> {
+    let (events, mut replies) = maker::morning(rng, row, task.graph());
+    match desks.morning(row, task.graph(), &events, &mut replies)? {
+        Reply::Done => replies.truncate(events.len()),
+        _ => replies.clear(),
+    }
+    Ok(replies.into_iter().filter_map(rows::reply).collect())
+}
+
 /// The text printed for a task file, with room enough and too little of it.
 fn file(desks: &mut Desks, rng: &mut Rng) -> Checked<()> {
     let file = maker::file(rng);
@@ -147,188 +183,4 @@ fn junk(len: usize) -> Vec<u32> {
     (1..=len as u32)
         .map(|i| i.wrapping_mul(0x9e37_79b1))
         .collect()
-}
-
-/// Both desks, called alike. What the independent desk hands back goes on.
-pub struct Desks<'a> {
-    pub library: Option<&'a dyn RowDesk>,
-    /// Whether each step is printed.
-    pub verbose: bool,
-    pub tally: Tally,
-}
-
-impl Desks<'_> {
-    /// Prints a step of a case that is replayed.
-    fn show(&self, text: impl FnOnce() -> String) {
-        if self.verbose {
-            println!("  {}", text());
-        }
-    }
-
-    fn expect_opened(&mut self, task: &Task, row: &mut [u32]) -> Checked<()> {
-        match self.open(task, row)? {
-            Reply::Opened => Ok(()),
-            reply => Err(format!("a task made to be accepted gets {reply:?}")),
-        }
-    }
-
-    fn open(&mut self, task: &Task, row: &mut [u32]) -> Checked<Reply> {
-        self.show(|| format!("open {task:?}"));
-        self.both("open", row, |desk, row| desk.open(task, row))
-    }
-
-    fn call(
-        &mut self,
-        action: Action,
-        row: &mut [u32],
-        graph: Graph,
-        worker: usize,
-    ) -> Checked<Reply> {
-        self.show(|| format!("{action:?} worker {worker}"));
-        match action {
-            Action::Take => self.take(row, graph, worker),
-            Action::Bring => self.both("bring", row, |desk, row| desk.bring(row, graph, worker)),
-        }
-    }
-
-    /// A Take; a Wait, which leaves the machine as it was, is held against order 1.
-    fn take(&mut self, row: &mut [u32], graph: Graph, worker: usize) -> Checked<Reply> {
-        let reply = self.both("take", row, |desk, row| desk.take(row, graph, worker))?;
-        if let Reply::Wait(state) = reply {
-            demand::see_wait(row, graph, state)?;
-        }
-        Ok(reply)
-    }
-
-    fn path(&mut self, row: &[u32], graph: Graph, buffer: &mut [u16], at: usize) -> Checked<Reply> {
-        self.show(|| format!("path into {} places from {at}", buffer.len()));
-        self.both("path", buffer, |desk, buffer| {
-            desk.path(row, graph, buffer, at)
-        })
-    }
-
-    /// Makes the same call to both desks, each with its own copy of the places
-    /// it may write to, and compares replies and places.
-    fn both<T: Copy + From<u8> + PartialEq + Debug>(
-        &mut self,
-        what: &'static str,
-        places: &mut [T],
-        call: impl Fn(&dyn RowDesk, &mut [T]) -> u64,
-    ) -> Checked<Reply> {
-        let theirs = self.library.map(|library| {
-            let mut copy = Guarded::new(places);
-            (call(library, copy.inner()), copy)
-        });
-        let code = call(&Independent, places);
-        self.show(|| format!("  independent: {}", Shown(code)));
-        if let Some((their_code, copy)) = theirs {
-            self.show(|| format!("  library:     {}", Shown(their_code)));
-            same_reply(what, their_code, code)?;
-            copy.compare(what, places)?;
-        }
-        let reply = rows::reply(code).ok_or(format!("{what}: no reply has code {code:#x}"))?;
-        self.tally.add_reply(what, reply);
-        Ok(reply)
-    }
-
-    fn print(&mut self, file: &[u8], room: usize) -> Checked<()> {
-        let mut ours = vec![b'.'; room];
-        let mut theirs = Guarded::new(&ours);
-        let length = Independent.print(file, &mut ours);
-        let text = text_of(&ours, length);
-        self.show(|| format!("independent, {length} bytes:\n{text}"));
-        self.tally.add_text(&text);
-        if let Some(library) = self.library {
-            let their_length = library.print(file, theirs.inner());
-            let their_text = text_of(theirs.inner(), their_length);
-            self.show(|| format!("library, {their_length} bytes:\n{their_text}"));
-            same_text(&their_text, &text)?;
-            if length != their_length {
-                return Err(format!("print: library {their_length} bytes, not {length}"));
-            }
-            theirs.compare("print", &ours)?;
-        }
-        Ok(())
-    }
-}
-
-fn text_of(out: &[u8], length: usize) -> String {
-    String::from_utf8_lossy(&out[..length.min(out.len())]).into_owned()
-}
-
-fn same_reply(what: &str, library: u64, independent: u64) -> Checked<()> {
-    match library == independent {
-        true => Ok(()),
-        false => Err(format!(
-            "{what}: library {}, independent {}",
-            Shown(library),
-            Shown(independent)
-        )),
-    }
-}
-
-fn same_text(library: &str, independent: &str) -> Checked<()> {
-    let (mut theirs, mut ours) = (library.lines(), independent.lines());
-    for line in 1.. {
-        match (theirs.next(), ours.next()) {
-            (None, None) => break,
-            (their, our) if their == our => {}
-            (their, our) => {
-                return Err(format!(
-                    "print: line {line}: library {:?}, independent {:?}",
-                    their.unwrap_or("ends"),
-                    our.unwrap_or("ends")
-                ))
-            }
-        }
-    }
-    Ok(())
-}
-
-fn same_places<T: PartialEq + Debug>(what: &str, library: &[T], independent: &[T]) -> Checked<()> {
-    if library == independent {
-        return Ok(());
-    }
-    let mut pairs = library.iter().zip(independent).enumerate();
-    match pairs.find(|(_, (theirs, ours))| theirs != ours) {
-        Some((place, (theirs, ours))) => Err(format!(
-            "{what}: place {place}: library {theirs:?}, independent {ours:?}"
-        )),
-        None => Err(format!(
-            "{what}: {} places, not {}",
-            library.len(),
-            independent.len()
-        )),
-    }
-}
-
-/// A copy of places with others before and after it that must stay as they are.
-struct Guarded<T> {
-    places: Vec<T>,
-}
-
-const GUARD: usize = 4;
-const GUARD_BYTE: u8 = 0xa5;
-
-impl<T: Copy + From<u8> + PartialEq + Debug> Guarded<T> {
-    fn new(places: &[T]) -> Guarded<T> {
-        let mut copy = vec![T::from(GUARD_BYTE); places.len() + 2 * GUARD];
-        copy[GUARD..GUARD + places.len()].copy_from_slice(places);
-        Guarded { places: copy }
-    }
-
-    fn inner(&mut self) -> &mut [T] {
-        let end = self.places.len() - GUARD;
-        &mut self.places[GUARD..end]
-    }
-
-    fn compare(&self, what: &str, independent: &[T]) -> Checked<()> {
-        let (before, rest) = self.places.split_at(GUARD);
-        let (inner, after) = rest.split_at(rest.len() - GUARD);
-        let untouched = |guard: &[T]| guard.iter().all(|&place| place == T::from(GUARD_BYTE));
-        if !untouched(before) || !untouched(after) {
-            return Err(format!("{what}: library writes beyond what it is lent"));
-        }
-        same_places(what, inner, independent)
-    }
 }

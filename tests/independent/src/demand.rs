@@ -3,11 +3,13 @@
 //! task's passages from start to goal that adds up to its cost, and 100 * cost is
 //! at most E * shortest; NoPath is given only where there is no route.
 //!
-//! And what order 1 of document 02 asks of a Wait on any machine, checked with
-//! own sums: that it names the state that is waited for.
+//! And what document 02 asks on any machine: of a Wait (order 1), checked with own
+//! sums, that it names the state that is waited for; of a morning (order 2) that
+//! it leaves what as many single calls to the same desk leave.
 
 use crate::desk::{Graph, Machine, Reply, Task, MAX_STATES, OPEN, OUT};
-use crate::rows::{self, VIAS};
+use crate::morning::Event;
+use crate::rows::{self, RowDesk, Shown, VIAS};
 
 /// Follows the replies to one task's calls.
 pub struct Watch<'a> {
@@ -165,6 +167,50 @@ impl Waiting<'_> {
     fn estimate(&self, from: usize, to: usize) -> u64 {
         u64::from(self.estimates[from * self.machine.head.n + to])
     }
+}
+
+/// A morning's list, and what it was lent to write to, before and after it.
+pub struct Morning<'a> {
+    pub graph: Graph<'a>,
+    pub events: &'a [u32],
+    pub row: [&'a [u32]; 2],
+    pub replies: [&'a [u64]; 2],
+}
+
+/// Checks a morning that a desk answered with `reply`: once done it has left the
+/// replies and the machine of as many single calls to this desk, and the places
+/// past the last event as they were; refused, it has left everything so.
+pub fn see_morning(desk: &dyn RowDesk, reply: Reply, morning: &Morning) -> Result<(), String> {
+    let mut row = morning.row[0].to_vec();
+    let mut replies = morning.replies[0].to_vec();
+    if reply == Reply::Done {
+        serve_singly(desk, morning, &mut row, &mut replies)?;
+    }
+    let mut pairs = replies.iter().zip(morning.replies[1]).enumerate();
+    if let Some((place, (&singly, &left))) = pairs.find(|(_, (singly, left))| singly != left) {
+        let (left, singly) = (Shown(left), Shown(singly));
+        return Err(format!("morning leaves reply {place} {left}, not {singly}"));
+    }
+    match row == morning.row[1] {
+        true => Ok(()),
+        false => Err("morning leaves another machine than single calls".into()),
+    }
+}
+
+/// Makes a morning's calls singly, and writes the replies one after the other.
+fn serve_singly(
+    desk: &dyn RowDesk,
+    morning: &Morning,
+    row: &mut [u32],
+    replies: &mut [u64],
+) -> Result<(), String> {
+    for (number, &event) in morning.events.iter().enumerate() {
+        let fault = || format!("morning done, but not its event {number}, {event:#x}");
+        let place = replies.get_mut(number).ok_or_else(fault)?;
+        let event = Event::of(event).ok_or_else(fault)?;
+        *place = desk.call(event.action, row, morning.graph, event.worker.into());
+    }
+    Ok(())
 }
 
 /// The cost of a cheapest route, if there is a route (Dijkstra).

@@ -19,6 +19,13 @@ pub const SEARCHING: u8 = 0;
 pub const FOUND: u8 = 1;
 pub const NO_PATH: u8 = 2;
 
+/// The calls of a worker.
+#[derive(Clone, Copy, Debug, PartialEq, Eq)]
+pub enum Action {
+    Take,
+    Bring,
+}
+
 /// What a call answers.
 #[derive(Clone, Copy, Debug, PartialEq, Eq)]
 pub enum Reply {
@@ -31,6 +38,8 @@ pub enum Reply {
     Wait(u16),
     Read(u32),
     Refused(u32),
+    /// A morning's events were served.
+    Done,
 }
 
 /// The numbers of a task beside its lent slices.
@@ -128,6 +137,13 @@ impl Machine {
         };
         machine.marks[head.start] = OPEN;
         machine
+    }
+
+    pub fn call(&mut self, action: Action, graph: Graph, worker: usize) -> Reply {
+        match action {
+            Action::Take => self.take(graph, worker),
+            Action::Bring => self.bring(graph, worker),
+        }
     }
 
     pub fn take(&mut self, graph: Graph, worker: usize) -> Reply {

@@ -1,16 +1,18 @@
-//! An independent route desk, written from document 01 and order 1 of document 02
-//! alone, and what compares the proved desk with it.
+//! An independent route desk, written from document 01 and orders 1 and 2 of
+//! document 02 alone, and what compares the proved desk with it.
 //!
 //! - `desk`: the task, the machine, opening, Take, Bring and path reading.
+//! - `morning`: the events of a list that one call serves.
 //! - `taskfile`: the task file's reader and the text `deskrun` prints.
 //! - `rows`: the interface by number rows that both desks are called through.
 //! - `library`: the proved desk behind that interface (the only unsafe code).
 //! - `maker`: random tasks, machines, calls, buffers and files, from a seed.
 //! - `demand`: what demand 3 asks of a run, checked with an own Dijkstra, and
-//!   what order 1 asks of a Wait.
+//!   what the orders ask of a Wait and of a morning.
 //! - `compare`: one case of the comparison.
+//! - `desks`: both desks, called alike.
 //! - `tally`: counts of what the cases met.
-//! - `runs`: the runs of document 01, for either desk.
+//! - `runs`: the runs of document 01, and the orders' own, for either desk.
 //!
 //! ```text
 //! cargo test --offline                            self-tests, without the library
@@ -25,10 +27,12 @@
 pub mod compare;
 pub mod demand;
 pub mod desk;
+pub mod desks;
 #[cfg(desk_library)]
 #[allow(unsafe_code)]
 pub mod library;
 pub mod maker;
+pub mod morning;
 pub mod rows;
 pub mod runs;
 pub mod tally;

@@ -52,6 +52,19 @@ extern "C" {
         at: usize,
     ) -> u64;
 
+    fn desk_morning(
+        machine: *mut u32,
+        machine_len: usize,
+        passages: *const u32,
+        passages_len: usize,
+        estimates: *const u32,
+        estimates_len: usize,
+        events: *const u32,
+        events_len: usize,
+        replies: *mut u64,
+        replies_len: usize,
+    ) -> u64;
+
     fn desk_print(file: *const u8, file_len: usize, out: *mut u8, out_len: usize) -> usize;
 }
 
@@ -123,6 +136,24 @@ impl RowDesk for Library {
                 buffer.as_mut_ptr(),
                 buffer.len(),
                 at,
+            )
+        }
+    }
+
+    fn morning(&self, row: &mut [u32], graph: Graph, events: &[u32], replies: &mut [u64]) -> u64 {
+        // SAFETY: each pointer goes with the length of the slice it comes from.
+        unsafe {
+            desk_morning(
+                row.as_mut_ptr(),
+                row.len(),
+                graph.passages.as_ptr(),
+                graph.passages.len(),
+                graph.estimates.as_ptr(),
+                graph.estimates.len(),
+                events.as_ptr(),
+                events.len(),
+                replies.as_mut_ptr(),
+                replies.len(),
             )
         }
     }

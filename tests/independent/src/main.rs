@@ -2,15 +2,15 @@
 //!
 //! Options: `--cases N` (100000), `--seed S` (1), `--seconds LIMIT`,
 //! `--case I` (replays one case of the seed, step by step), `--self` (compares
-//! nothing: only the runs of document 01, demand 3 and order 1 on the independent
-//! desk), `--progress` (names each case before it is run, should the library
-//! crash).
+//! nothing: only the documents' runs, demand 3 and the orders' checks on the
+//! independent desk), `--progress` (names each case before it is run, should the
+//! library crash).
 //! The last line is `compared N cases, D differences`; status 1 where D > 0.
 
-use independent::compare::{run_case, Desks};
+use independent::compare::run_case;
+use independent::desks::Desks;
 use independent::rows::{Independent, RowDesk};
 use independent::runs;
-use independent::tally::Tally;
 use std::process::ExitCode;
 use std::time::{Duration, Instant};
 
@@ -39,11 +39,7 @@ fn main() -> ExitCode {
             return ExitCode::from(2);
         }
     };
-    let mut desks = Desks {
-        library,
-        verbose: options.only_case.is_some(),
-        tally: Tally::default(),
-    };
+    let mut desks = Desks::new(library, options.only_case.is_some());
     let (compared, differences) = match options.only_case {
         Some(case) => (1, report_case(&mut desks, options.seed, case)),
         None => run_all(&mut desks, &options),
@@ -80,7 +76,7 @@ fn read_options(mut words: impl Iterator<Item = String>) -> Result<Options, Stri
     Ok(options)
 }
 
-/// Runs document 01's runs and the random cases: how many cases and differences.
+/// Runs the documents' runs and the random cases: how many cases and differences.
 fn run_all(desks: &mut Desks, options: &Options) -> (u64, u64) {
     let mut differences = report_runs("independent", &Independent);
     if let Some(library) = desks.library {
@@ -112,7 +108,7 @@ fn report_runs(name: &str, desk: &dyn RowDesk) -> u64 {
     }
     let all = runs::RUNS.len();
     println!(
-        "{name}: {} of {all} runs of document 01 pass",
+        "{name}: {} of {all} runs of the documents pass",
         all - failures.len()
     );
     failures.len() as u64

@@ -1,11 +1,16 @@
-//! The random maker: tasks, made-up machines, calls, buffers and task files,
-//! good and damaged, all drawn from a seed and a case number.
+//! The random maker: tasks, made-up machines, calls, mornings, buffers and task
+//! files, good and damaged, all drawn from a seed and a case number.
 
 use crate::desk::{
-    Head, Machine, Task, MAX_COST, MAX_LABEL, MAX_PASSAGES, NONE, OPEN, OUT, SEARCHING, UNSEEN,
+    Action, Graph, Head, Task, MAX_COST, MAX_LABEL, MAX_PASSAGES, NONE, OPEN, OUT, SEARCHING,
+    UNSEEN,
 };
-use crate::rows::{self, HELD, LABELS, MARKS, PHASE, ROW, VIAS};
-use crate::taskfile::{Action, MAX_FILE};
+use crate::rows::{Independent, RowDesk, HELD, LABELS, MARKS, PHASE, ROW, VIAS};
+use crate::taskfile::MAX_FILE;
+
+mod morning;
+
+pub use morning::morning;
 
 /// A small generator of random numbers (splitmix64).
 pub struct Rng(u64);
@@ -302,6 +307,28 @@ pub fn call(rng: &mut Rng, row: &[u32], eager_percent: usize) -> (Action, usize)
         (true, false) => (Action::Take, rng.below(k.clamp(1, 32))),
         (false, _) => (Action::Take, worker),
     }
+}
+
+/// Calls by workers up to `highest`, chosen while the independent desk answers
+/// them on the machine in a row; the row may also hold none.
+fn calls_on(
+    rng: &mut Rng,
+    row: &[u32],
+    graph: Graph,
+    count: usize,
+    highest: usize,
+) -> Vec<(Action, usize)> {
+    let eager_percent = rng.between(20, 100);
+    let mut row = row.to_vec();
+    row.resize(ROW, 0);
+    let mut calls = Vec::with_capacity(count);
+    for _ in 0..count {
+        let (action, worker) = call(rng, &row, eager_percent);
+        let worker = worker.min(highest);
+        Independent.call(action, &mut row, graph, worker);
+        calls.push((action, worker));
+    }
+    calls
 }
 
 /// A buffer with something in each place, and a place to read a path to; the
@@ -616,32 +643,19 @@ fn task_records(task: &Task) -> Vec<Record> {
     records
 }
 
-/// Calls chosen while the independent desk answers them; a few files are filled
-/// up with calls to about their greatest length.
+/// Calls on the machine that opening hands back; a few files are filled up with
+/// calls to about their greatest length.
 fn file_calls(rng: &mut Rng, task: &Task) -> Vec<Record> {
     let count = match rng.below(300) {
         0 => 9000,
         _ => rng.between(0, 5 * task.head.n + 10),
     };
-    let eager_percent = rng.between(20, 100);
-    let mut machine = Machine::open(task.head, task.graph()).ok();
     let mut row = vec![0; ROW];
-    let mut records = Vec::with_capacity(count);
-    for _ in 0..count {
-        if let Some(machine) = &machine {
-            rows::encode(machine, &mut row);
-        }
-        let (action, worker) = call(rng, &row, eager_percent);
-        let worker = worker as u8;
-        if let Some(machine) = &mut machine {
-            match action {
-                Action::Take => machine.take(task.graph(), usize::from(worker)),
-                Action::Bring => machine.bring(task.graph(), usize::from(worker)),
-            };
-        }
-        records.push(Record::call(action, worker));
-    }
-    records
+    Independent.open(task, &mut row);
+    let calls = calls_on(rng, &row, task.graph(), count, 255).into_iter();
+    calls
+        .map(|(action, worker)| Record::call(action, worker as u8))
+        .collect()
 }
 
 /// Changes that the reader lets pass, all but n, and opening refuses.

@@ -2,7 +2,8 @@
 //! numbers, a reply as one number. `Independent` puts the independent desk
 //! behind it, so that comparison and bench treat both desks alike.
 
-use crate::desk::{Graph, Head, Machine, Reply, Task, MAX_STATES, MAX_WORKERS};
+use crate::desk::{Action, Graph, Head, Machine, Reply, Task, MAX_STATES, MAX_WORKERS};
+use crate::morning;
 use crate::taskfile;
 use std::fmt;
 
@@ -23,7 +24,16 @@ pub trait RowDesk {
     fn take(&self, row: &mut [u32], graph: Graph, worker: usize) -> u64;
     fn bring(&self, row: &mut [u32], graph: Graph, worker: usize) -> u64;
     fn path(&self, row: &[u32], graph: Graph, buffer: &mut [u16], at: usize) -> u64;
+    /// Serves events by number; their replies go to the front of `replies`.
+    fn morning(&self, row: &mut [u32], graph: Graph, events: &[u32], replies: &mut [u64]) -> u64;
     fn print(&self, file: &[u8], out: &mut [u8]) -> usize;
+
+    fn call(&self, action: Action, row: &mut [u32], graph: Graph, worker: usize) -> u64 {
+        match action {
+            Action::Take => self.take(row, graph, worker),
+            Action::Bring => self.bring(row, graph, worker),
+        }
+    }
 }
 
 /// The code of a reply: case * 2^32 + value.
@@ -37,6 +47,7 @@ pub fn code(reply: Reply) -> u64 {
         Reply::Wait(state) => (5, u32::from(state)),
         Reply::Read(count) => (6, count),
         Reply::Refused(number) => (7, number),
+        Reply::Done => (8, 0),
     };
     case << 32 | u64::from(value)
 }
@@ -53,6 +64,7 @@ pub fn reply(code: u64) -> Option<Reply> {
         (5, _) => u16::try_from(value).ok().map(Reply::Wait),
         (6, _) => Some(Reply::Read(value)),
         (7, _) => Some(Reply::Refused(value)),
+        (8, 0) => Some(Reply::Done),
         _ => None,
     }
 }
@@ -171,6 +183,19 @@ impl RowDesk for Independent {
             Some(machine) => machine.path(graph, buffer, at),
             None => Reply::Refused(8),
         })
+    }
+
+    /// A list that is refused is so before the row is looked at.
+    fn morning(&self, row: &mut [u32], graph: Graph, events: &[u32], replies: &mut [u64]) -> u64 {
+        match morning::admit(events, replies.len()) {
+            Ok(events) => Independent::on_row(row, |machine| {
+                for (event, place) in events.iter().zip(replies) {
+                    *place = code(machine.call(event.action, graph, event.worker.into()));
+                }
+                Reply::Done
+            }),
+            Err(number) => code(Reply::Refused(number)),
+        }
     }
 
     fn print(&self, file: &[u8], out: &mut [u8]) -> usize {

@@ -21,6 +21,7 @@ impl Tally {
             Reply::Wait(_) => ("wait", 0),
             Reply::Read(_) => ("read", 0),
             Reply::Refused(number) => ("refused", number),
+            Reply::Done => ("done", 0),
         };
         self.add(call, word, number);
     }

@@ -1,7 +1,7 @@
 //! The task file: its reader, with the faults 21 to 23, and the text that
 //! `deskrun` prints for a file.
 
-use crate::desk::{Graph, Head, Machine, Reply, Task};
+use crate::desk::{Action, Graph, Head, Machine, Reply, Task};
 use std::fmt::Write;
 
 pub const MAX_FILE: usize = 65_536;
@@ -13,12 +13,6 @@ const MAX_FILE_PASSAGES: usize = 512;
 pub struct Fault {
     pub number: u32,
     pub offset: usize,
-}
-
-#[derive(Clone, Copy, Debug, PartialEq, Eq)]
-pub enum Action {
-    Take,
-    Bring,
 }
 
 #[derive(Clone, Copy, Debug, PartialEq, Eq)]
@@ -176,10 +170,7 @@ fn run_calls(mut machine: Machine, graph: Graph, calls: &[Call]) -> String {
     let mut text = String::with_capacity(16 * calls.len());
     for call in calls {
         let worker = usize::from(call.worker);
-        let reply = match call.action {
-            Action::Take => machine.take(graph, worker),
-            Action::Bring => machine.bring(graph, worker),
-        };
+        let reply = machine.call(call.action, graph, worker);
         print_reply(&mut text, worker, reply);
         if matches!(reply, Reply::Found(_)) {
             print_path(&mut text, &machine, graph);
@@ -196,7 +187,9 @@ fn print_reply(text: &mut String, worker: usize, reply: Reply) {
         Reply::NoPath => writeln!(text, "nopath {worker}"),
         Reply::Wait(state) => writeln!(text, "wait {worker} {state}"),
         Reply::Refused(number) => writeln!(text, "refused {worker} {number}"),
-        Reply::Opened | Reply::Read(_) => unreachable!("no answer to Take or Bring"),
+        Reply::Opened | Reply::Read(_) | Reply::Done => {
+            unreachable!("no answer to Take or Bring")
+        }
     }
     .expect("writing to a String does not fail");
 }

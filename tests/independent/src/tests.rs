@@ -1,16 +1,21 @@
 //! Self-tests of the independent desk, its file reader, the maker and the
-//! checks of demand 3 and of Waits; they need no library.
+//! checks of demand 3 and of Waits; they need no library. Those of orders 2 and
+//! on stand in modules of their own.
 
-use crate::compare::{run_case, Desks};
+use crate::compare::run_case;
 use crate::demand::{see_wait, shortest, Watch};
 use crate::desk::{
-    Graph, Machine, Reply, Task, FINISHED, FOUND, MAX_LABEL, MAX_PASSAGES, NONE, OPEN, OUT, UNSEEN,
+    Action, Graph, Machine, Reply, Task, FINISHED, FOUND, MAX_LABEL, MAX_PASSAGES, NONE, OPEN, OUT,
+    UNSEEN,
 };
+use crate::desks::Desks;
 use crate::maker::{self, Rng};
 use crate::rows::{self, Independent, RowDesk, PRINT_ROOM, ROW};
 use crate::runs::{self, task_a};
 use crate::tally::Tally;
-use crate::taskfile::{self, Action, Fault, MAX_FILE};
+use crate::taskfile::{self, Fault, MAX_FILE};
+
+mod morning;
 
 type Change = fn(&mut Machine);
 
@@ -425,6 +430,7 @@ fn codes_and_replies_go_both_ways() {
         Reply::Wait(255),
         Reply::Read(9),
         Reply::Refused(12),
+        Reply::Done,
     ];
     for (case, reply) in replies.into_iter().enumerate() {
         assert_eq!(rows::code(reply) >> 32, case as u64);
@@ -432,6 +438,8 @@ fn codes_and_replies_go_both_ways() {
     }
     assert_eq!(rows::reply(4 << 32 | 1), None);
     assert_eq!(rows::reply(5 << 32 | 65_536), None);
+    assert_eq!(rows::reply(8 << 32 | 1), None);
+    assert_eq!(rows::reply(9 << 32), None);
 }
 
 // ---- Task files ----
@@ -573,8 +581,19 @@ fn wrong_waits_are_caught() {
     assert!(see_wait(&[], task_a().graph(), 0).is_err());
 }
 
-/// A stand-in for a library: the independent desk with one thing wrong.
-struct Wrong(fn(&mut [u32], u64) -> u64);
+/// A stand-in for a library: the independent desk with something wrong in what a
+/// call hands back. The last number that each change is given is the reply.
+struct Wrong {
+    take: fn(&mut [u32], u64) -> u64,
+    /// With the machine's row, the events and the row of replies.
+    morning: fn(&mut [u32], &[u32], &mut [u64], u64) -> u64,
+}
+
+/// A stand-in with nothing wrong, to be changed.
+const RIGHT: Wrong = Wrong {
+    take: |_, reply| reply,
+    morning: |_, _, _, reply| reply,
+};
 
 impl RowDesk for Wrong {
     fn open(&self, task: &Task, row: &mut [u32]) -> u64 {
@@ -582,7 +601,7 @@ impl RowDesk for Wrong {
     }
     fn take(&self, row: &mut [u32], graph: Graph, worker: usize) -> u64 {
         let reply = Independent.take(row, graph, worker);
-        (self.0)(row, reply)
+        (self.take)(row, reply)
     }
     fn bring(&self, row: &mut [u32], graph: Graph, worker: usize) -> u64 {
         Independent.bring(row, graph, worker)
@@ -590,17 +609,17 @@ impl RowDesk for Wrong {
     fn path(&self, row: &[u32], graph: Graph, buffer: &mut [u16], at: usize) -> u64 {
         Independent.path(row, graph, buffer, at)
     }
+    fn morning(&self, row: &mut [u32], graph: Graph, events: &[u32], replies: &mut [u64]) -> u64 {
+        let reply = Independent.morning(row, graph, events, replies);
+        (self.morning)(row, events, replies, reply)
+    }
     fn print(&self, file: &[u8], out: &mut [u8]) -> usize {
         Independent.print(file, out)
     }
 }
 
 fn count_differences(library: Option<&dyn RowDesk>, cases: u64) -> (usize, Tally) {
-    let mut desks = Desks {
-        library,
-        verbose: false,
-        tally: Tally::default(),
-    };
+    let mut desks = Desks::new(library, false);
     let differing = (0..cases).filter(|&case| run_case(&mut desks, 3, case).is_err());
     let count = differing.count();
     (count, desks.tally)
@@ -608,18 +627,22 @@ fn count_differences(library: Option<&dyn RowDesk>, cases: u64) -> (usize, Tally
 
 #[test]
 fn comparison_sees_a_wrong_reply_and_a_wrong_number() {
-    assert_eq!(count_differences(Some(&Independent), 300).0, 0);
-    let other_refusal = Wrong(|_, reply| reply + u64::from(reply == 7 << 32 | 9));
-    assert!(count_differences(Some(&other_refusal), 300).0 > 0);
-    let other_wait = Wrong(|_, reply| reply + u64::from(reply >> 32 == 5));
-    assert!(count_differences(Some(&other_wait), 300).0 > 0);
-    let forgets_phase = Wrong(|row, reply| {
-        if reply >> 32 == 4 {
-            row[6] = 0;
-        }
-        reply
-    });
-    assert!(count_differences(Some(&forgets_phase), 300).0 > 0);
+    assert_eq!(count_differences(Some(&RIGHT), 300).0, 0);
+    let changes: &[fn(&mut [u32], u64) -> u64] = &[
+        // Another refusal, another Wait, a phase forgotten.
+        |_, reply| reply + u64::from(reply == 7 << 32 | 9),
+        |_, reply| reply + u64::from(reply >> 32 == 5),
+        |row, reply| {
+            if reply >> 32 == 4 {
+                row[6] = 0;
+            }
+            reply
+        },
+    ];
+    for &take in changes {
+        let wrong = Wrong { take, ..RIGHT };
+        assert!(count_differences(Some(&wrong), 300).0 > 0);
+    }
 }
 
 /// The cases meet every reply and every refusal and fault but 12 and 27: the
@@ -642,6 +665,8 @@ fn cases_meet_everything() {
         ("take", &["took", "found", "nopath", "wait"]),
         ("bring", &["brought"]),
         ("path", &["read"]),
+        ("morning", &["done"]),
+        ("event", &["took", "brought", "found", "nopath", "wait"]),
         ("print", &["run", "nothing"]),
     ] {
         words.iter().for_each(|word| met(call, word, &[0]));
@@ -650,6 +675,8 @@ fn cases_meet_everything() {
     met("take", "refused", &[8, 9, 10, 11]);
     met("bring", "refused", &[8, 9, 10, 11]);
     met("path", "refused", &[8, 13, 14, 15]);
+    met("morning", "refused", &[8, 16, 18]);
+    met("event", "refused", &[8, 9, 10, 11]);
     met("print", "file", &[21, 22, 23]);
     met("print", "opening", &[1, 2, 3]);
 }

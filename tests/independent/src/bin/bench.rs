@@ -1,8 +1,9 @@
 //! `bench`: times the proved desk against the independent one, on the same
-//! inputs, in one process, in turns; the least time of several repetitions.
+//! inputs, in one process, in turns; the least time of several repetitions. Then
+//! mornings against as many single calls to the same desk.
 //!
 //! ```text
-//! bench                                     the table of all workloads
+//! bench                                     the tables of all workloads
 //! bench take                                of those with `take` in their name
 //! bench --list                              the names
 //! bench --once NAME --side library --times 100
@@ -17,10 +18,11 @@
 //! it. A row that a call changes is first copied anew, in the time of both
 //! sides. Buffers are not cleared between repetitions.
 
-use independent::desk::{Graph, Head, Task, FINISHED, NONE, OPEN, OUT};
+use independent::desk::{Action, Graph, Head, Task, FINISHED, NONE, OPEN, OUT};
 use independent::maker::{self, Rng};
+use independent::morning::Event;
 use independent::rows::{Independent, RowDesk, Shown, HELD, LABELS, MARKS, PHASE, PRINT_ROOM, ROW};
-use independent::taskfile::{Action, MAX_FILE};
+use independent::taskfile::MAX_FILE;
 use std::cell::RefCell;
 use std::hint::black_box;
 use std::process::ExitCode;
@@ -116,7 +118,7 @@ const WORKLOADS: &[Workload] = &[
     },
     Workload {
         name: "print file of 65536, all calls run",
-        set_up: || print(searching_file(MAX_FILE)),
+        set_up: || print(searching_file()),
     },
     Workload {
         name: "print file of 65536, fault in last record",
@@ -126,7 +128,38 @@ const WORKLOADS: &[Workload] = &[
         name: "print file of 65536, one search k=8",
         set_up: || print(ended_file()),
     },
+    Workload {
+        name: "morning of 7000, all calls run",
+        set_up: || morning(&searching_task(), searching_call),
+    },
+    Workload {
+        name: "morning of 7000, one search k=8",
+        set_up: || morning(&ended_task(), ended_call),
+    },
 ];
+
+/// A morning, and the same calls made singly.
+struct TwoWays {
+    name: &'static str,
+    morning: fn() -> Go,
+    singly: fn() -> Go,
+}
+
+const MORNINGS: &[TwoWays] = &[
+    TwoWays {
+        name: "morning of 7000, all calls run",
+        morning: || morning(&searching_task(), searching_call),
+        singly: || single_calls(&searching_task(), searching_call),
+    },
+    TwoWays {
+        name: "morning of 7000, one search k=8",
+        morning: || morning(&ended_task(), ended_call),
+        singly: || single_calls(&ended_task(), ended_call),
+    },
+];
+
+/// The events of a morning.
+const EVENTS: usize = 7000;
 
 // ---- Workloads ----
 
@@ -182,6 +215,39 @@ fn whole_run(n: usize, passages: usize, k: usize) -> Go {
 fn print(file: Vec<u8>) -> Go {
     let out = RefCell::new(vec![0; PRINT_ROOM]);
     Box::new(move |desk| desk.print(black_box(&file), &mut out.borrow_mut()) as u64)
+}
+
+/// A morning on the opened machine; gives its last event's reply.
+fn morning(task: &Task, call: fn(usize) -> (Action, u8)) -> Go {
+    let event = |(action, worker): (Action, u8)| Event {
+        action,
+        worker: worker.into(),
+    };
+    let events: Vec<_> = (0..EVENTS).map(|i| event(call(i)).number()).collect();
+    serve(task, move |desk, row, graph, replies| {
+        desk.morning(row, graph, black_box(&events), replies);
+    })
+}
+
+/// The same calls made singly, with the same row for their replies.
+fn single_calls(task: &Task, call: fn(usize) -> (Action, u8)) -> Go {
+    let calls: Vec<_> = (0..EVENTS).map(call).collect();
+    serve(task, move |desk, row, graph, replies| {
+        for (&(action, worker), place) in black_box(&calls).iter().zip(replies) {
+            *place = desk.call(action, row, graph, worker.into());
+        }
+    })
+}
+
+/// A go that writes a reply for each event.
+fn serve(task: &Task, go: impl Fn(&dyn RowDesk, &mut [u32], Graph, &mut [u64]) + 'static) -> Go {
+    let task = task.clone();
+    let replies = RefCell::new(vec![0; EVENTS]);
+    on_copy(opened_row(&task), move |desk, row| {
+        let mut replies = replies.borrow_mut();
+        go(desk, row, black_box(task.graph()), &mut replies);
+        replies[EVENTS - 1]
+    })
 }
 
 /// One go with a fresh copy of a row.
@@ -279,50 +345,65 @@ fn spread_row(task: &Task, open: usize) -> Vec<u32> {
     row
 }
 
-/// A file of 63 states and 512 passages, filled up with calls to a length.
-fn file_with_calls(length: usize, k: usize, actions: impl Fn(usize) -> (Action, u8)) -> Vec<u8> {
-    let mut task = map_task(63, 512, k);
-    if k == 32 {
-        task.estimates.fill(0);
-    }
-    let bare = maker::file_of(&task, &[]).len();
-    let calls: Vec<_> = (0..(length - bare) / 6).map(actions).collect();
-    maker::file_of(&task, &calls)
+/// A task and calls whose search goes on to the last call: worker 0 holds the
+/// start, and all others wait.
+fn searching_task() -> Task {
+    let mut task = map_task(63, 512, 32);
+    task.estimates.fill(0);
+    task
 }
 
-/// A file whose search goes on to its last call: worker 0 holds the start, and
-/// all others wait.
-fn searching_file(length: usize) -> Vec<u8> {
-    file_with_calls(length, 32, |number| match number {
+fn searching_call(number: usize) -> (Action, u8) {
+    match number {
         0 => (Action::Take, 0),
         _ => (Action::Take, 1 + (number % 31) as u8),
-    })
+    }
+}
+
+/// A task and calls whose search ends early: the other calls are refused.
+fn ended_task() -> Task {
+    map_task(63, 512, 8)
+}
+
+fn ended_call(number: usize) -> (Action, u8) {
+    let action = match number / 8 % 2 {
+        0 => Action::Take,
+        _ => Action::Bring,
+    };
+    (action, (number % 8) as u8)
+}
+
+/// A file of a task, filled up with calls.
+fn full_file(task: &Task, call: fn(usize) -> (Action, u8)) -> Vec<u8> {
+    let bare = maker::file_of(task, &[]).len();
+    let calls: Vec<_> = (0..(MAX_FILE - bare) / 6).map(call).collect();
+    maker::file_of(task, &calls)
+}
+
+fn searching_file() -> Vec<u8> {
+    full_file(&searching_task(), searching_call)
 }
 
 /// The same with a wrong last call, so that it is read to its end only.
 fn faulty_file() -> Vec<u8> {
-    let mut file = searching_file(MAX_FILE);
+    let mut file = searching_file();
     let last = file.len() - 2;
     file[last] = 2;
     file
 }
 
-/// A file whose search ends early: the other calls are refused.
 fn ended_file() -> Vec<u8> {
-    file_with_calls(MAX_FILE, 8, |number| match number / 8 % 2 {
-        0 => (Action::Take, (number % 8) as u8),
-        _ => (Action::Bring, (number % 8) as u8),
-    })
+    full_file(&ended_task(), ended_call)
 }
 
 // ---- Timing ----
 
-/// The least time of one go of each side, in nanoseconds.
-fn time_sides(go: &Go, sides: &[&dyn RowDesk]) -> Vec<f64> {
-    let times = goes_per_batch(go);
-    let mut least = vec![f64::MAX; sides.len()];
+/// The least time of each, taken in turns, in nanoseconds.
+fn time_in_turns<const N: usize>(sides: [(&Go, &dyn RowDesk); N]) -> [f64; N] {
+    let times = goes_per_batch(sides[0].0);
+    let mut least = [f64::MAX; N];
     for _ in 0..REPETITIONS {
-        for (least, &desk) in least.iter_mut().zip(sides) {
+        for (least, (go, desk)) in least.iter_mut().zip(sides) {
             *least = least.min(time_batch(go, desk, times).as_nanos() as f64 / times as f64);
         }
     }
@@ -354,26 +435,55 @@ fn print_table(part: &str) {
         let go = (workload.set_up)();
         match independent::library() {
             Some(library) => {
-                let times = time_sides(&go, &[library, &Independent]);
-                let ratio = times[0] / times[1];
-                let note = if go(library) == go(&Independent) {
-                    ""
-                } else {
-                    " replies differ"
-                };
-                println!(
-                    "{:42} {:12.0} {:15.0} {ratio:7.2}{note}",
-                    workload.name, times[0], times[1]
-                );
+                let times = time_in_turns([(&go, library), (&go, &Independent)]);
+                let note = note_of(go(library) == go(&Independent));
+                print_ratio(workload.name, times, note);
             }
             None => {
-                let times = time_sides(&go, &[&Independent]);
-                println!(
-                    "{:42} {:>12} {:15.0} {:>7}",
-                    workload.name, "-", times[0], "-"
-                );
+                let [time] = time_in_turns([(&go, &Independent)]);
+                println!("{:42} {:>12} {time:15.0} {:>7}", workload.name, "-", "-");
             }
         }
+    }
+}
+
+/// The mornings of the library, or of the independent desk where there is none.
+fn print_mornings(part: &str) {
+    let (side, desk): (_, &dyn RowDesk) = match independent::library() {
+        Some(library) => ("library", library),
+        None => ("independent", &Independent),
+    };
+    let name = format!("name ({side} alone)");
+    println!(
+        "\n{name:42} {:>12} {:>15} {:>7}",
+        "morning ns", "single calls ns", "ratio"
+    );
+    for ways in MORNINGS.iter().filter(|w| w.name.contains(part)) {
+        let (morning, singly) = ((ways.morning)(), (ways.singly)());
+        let times = time_in_turns([(&morning, desk), (&singly, desk)]);
+        print_ratio(ways.name, times, note_of(morning(desk) == singly(desk)));
+    }
+}
+
+fn print_ratio(name: &str, times: [f64; 2], note: &str) {
+    let ratio = times[0] / times[1];
+    println!(
+        "{name:42} {:12.0} {:15.0} {ratio:7.2}{note}",
+        times[0], times[1]
+    );
+}
+
+fn note_of(same: bool) -> &'static str {
+    match same {
+        true => "",
+        false => " replies differ",
+    }
+}
+
+fn print_tables(part: &str) {
+    print_table(part);
+    if MORNINGS.iter().any(|ways| ways.name.contains(part)) {
+        print_mornings(part);
     }
 }
 
@@ -383,7 +493,7 @@ fn main() -> ExitCode {
     let words: Vec<String> = std::env::args().skip(1).collect();
     let words: Vec<&str> = words.iter().map(String::as_str).collect();
     match words[..] {
-        [] => print_table(""),
+        [] => print_tables(""),
         ["--list"] => WORKLOADS.iter().for_each(|w| println!("{}", w.name)),
         ["--once", name, "--side", side, "--times", times] => {
             if let Err(fault) = once(name, side, times) {
@@ -391,7 +501,7 @@ fn main() -> ExitCode {
                 return ExitCode::from(2);
             }
         }
-        [part] if !part.starts_with("--") => print_table(part),
+        [part] if !part.starts_with("--") => print_tables(part),
         _ => {
             eprintln!("bench [PART] | --list | --once NAME --side SIDE --times N");
             return ExitCode::from(2);

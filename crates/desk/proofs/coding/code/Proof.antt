@@ -65,6 +65,9 @@ cast-result-6 c = search needs
 add-result-6 : tie.Need-add-result-6
 add-result-6 c = search needs
 
+enum-told-3 : tie.Need-enum-told-3
+enum-told-3 c = search needs
+
 returns : tie.Need-returns
 unfolding codeOf
 returns c = ap codeOf (sym (c .enum-told .given .1))
@@ -97,6 +100,10 @@ returns-8 : tie.Need-returns-8
 unfolding codeOf
 returns-8 c = ap codeOf (sym (c .before .reply6 .given .1))
 
+returns-9 : tie.Need-returns-9
+unfolding codeOf
+returns-9 c = ap codeOf (sym (c .enum-told3 .given .1))
+
 pub code-spec : {M : Type 1} → statement M
 code-spec =
     tie.close
@@ -121,6 +128,7 @@ code-spec =
     enum-known-reply-6
     cast-result-6
     add-result-6
+    enum-told-3
     returns
     returns-2
     returns-3
@@ -128,4 +136,5 @@ code-spec =
     returns-5
     returns-6
     returns-7
-    returns-8)
+    returns-8
+    returns-9)

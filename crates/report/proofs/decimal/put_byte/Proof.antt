@@ -1,6 +1,6 @@
 -- One store is a piece of one byte.
 use borrow.Author.Needs.{needs}
-use Rattle.report.specs.LineLaws.{put-one}
+use Rattle.laws.specs.Put.{put-one}
 use Rattle.report.proofs.decimal.put_byte.Statement.{statement}
 use Rattle.report.proofs.decimal.put_byte.Tie as tie
 

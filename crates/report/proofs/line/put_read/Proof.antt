@@ -3,7 +3,7 @@ use mathlib.Core.Path.{subst}
 use mathlib.Core.List.{[], _∷_}
 use borrow.Author.Needs.{needs}
 use Rattle.report.specs.Laws.{Drawn, other-case}
-use Rattle.report.specs.LineLaws.{put-three, put-none}
+use Rattle.laws.specs.Put.{put-three, put-none}
 use Rattle.report.proofs.line.put_read.Statement.{statement}
 use Rattle.report.proofs.line.put_read.Tie as tie
 
@@ -40,7 +40,7 @@ returns c =
 returns-2 : tie.Need-returns-2
 returns-2 c =
     let s = c .before .before in
-    rw (other-case (0 ∷ 1 ∷ 2 ∷ 3 ∷ 4 ∷ 5 ∷ 7 ∷ []) 6 (s .args .reply) tt (c .match .keys2)) (put-none _ _, search needs)
+    rw (other-case (0 ∷ 1 ∷ 2 ∷ 3 ∷ 4 ∷ 5 ∷ 7 ∷ 8 ∷ []) 6 (s .args .reply) tt (c .match .keys2)) (put-none _ _, search needs)
 
 pub put-read-spec : {M : Type 1} → statement M
 put-read-spec =

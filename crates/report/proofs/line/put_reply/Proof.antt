@@ -1,5 +1,5 @@
--- Each variant of the reply has its line, and the two without one leave the buffer as it was.
-use Rattle.report.specs.LineLaws.{put-none}
+-- Each variant of the reply has its line, and the three without one leave the buffer as it was.
+use Rattle.laws.specs.Put.{put-none}
 use borrow.Author.Needs.{needs}
 use Rattle.report.proofs.line.put_reply.Statement.{statement}
 use Rattle.report.proofs.line.put_reply.Tie as tie
@@ -79,6 +79,9 @@ cast-put-line2-5 c = search needs
 put-line2-requires-5 : tie.Need-put-line2-requires-5
 put-line2-requires-5 c κs = search needs
 
+enum-told-4 : tie.Need-enum-told-4
+enum-told-4 c = search needs
+
 returns : tie.Need-returns
 returns c = rw (c .enum-told .given .1) (put-none _ _, search needs)
 
@@ -121,6 +124,9 @@ same-length-6 c = search needs
 returns-8 : tie.Need-returns-8
 returns-8 c = rw (c .before .before .before .before .before .before .reply5 .given .1) (c .before .before .put-line25 .ensures)
 
+returns-9 : tie.Need-returns-9
+returns-9 c = rw (c .enum-told4 .given .1) (put-none _ _, search needs)
+
 pub put-reply-spec : {M : Type 1} → statement M
 put-reply-spec =
     tie.close
@@ -150,6 +156,7 @@ put-reply-spec =
     slice-aggregate-put-line2-5
     cast-put-line2-5
     put-line2-requires-5
+    enum-told-4
     returns
     same-length
     returns-2
@@ -163,4 +170,5 @@ put-reply-spec =
     returns-6
     returns-7
     same-length-6
-    returns-8)
+    returns-8
+    returns-9)

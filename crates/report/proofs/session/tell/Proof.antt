@@ -2,7 +2,7 @@
 use native.Mathlib.Omega.{arith}
 use denote.Ref.{now}
 use borrow.Author.Needs.{needs}
-use Rattle.report.specs.LineLaws.{put-length}
+use Rattle.laws.specs.Put.{put-length}
 use Rattle.report.specs.SessionLaws.{answer-spends, said}
 use Rattle.report.proofs.session.tell.Statement.{statement}
 use Rattle.report.proofs.session.tell.Tie as tie

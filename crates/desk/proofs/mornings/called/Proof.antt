@@ -1,8 +1,8 @@
 -- `called`: the event's number over 65,536 says which of the two calls it is, and the rest is its worker.
 use borrow.Author.Tests.{eq-eqb, ne-eqb}
 use borrow.Author.Needs.{needs}
-use Rattle.report.proofs.session.called.Statement.{statement}
-use Rattle.report.proofs.session.called.Tie as tie
+use Rattle.desk.proofs.mornings.called.Statement.{statement}
+use Rattle.desk.proofs.mornings.called.Tie as tie
 
 cast-worker : tie.Need-cast-worker
 cast-worker c = search needs
