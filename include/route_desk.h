@@ -11,7 +11,7 @@
  * Passages are three numbers each (from, to, cost); estimates are n x n numbers, h(a,b) at a * n + b.
  * A slice is a pointer and a count of elements; slices of one call must not overlap where one of them is written.
  *
- * Every call returns a reply: its case times 2^32, plus the number that it carries.
+ * Every call on a machine returns a reply: its case times 2^32, plus the number that it carries.
  * A refusal leaves the row, a buffer and a row of replies as they were. A row that hasn't DESK_ROW numbers, or has one
  * that is too large for its field (W, E, passage numbers and held states above 65535, marks and phase above 255), gets
  * refusal 8.
@@ -74,6 +74,26 @@ uint64_t desk_morning(uint32_t *machine, size_t machine_len,
                       const uint32_t *estimates, size_t estimates_len,
                       const uint32_t *events, size_t events_len,
                       uint64_t *replies, size_t replies_len);
+
+/* Reads the text of a grid map (`type octile`, at most 256 x 256 cells) into a task's passages and estimates, which go
+ * to the fronts of the two slices; places past them keep what they had. Returns cells times 2^32, plus the count of
+ * passages; the task's n is the count of cells, and its states are the open cells, row by row. Refused, it returns
+ * the refusal's number alone, below 2^32, and leaves both slices as they were: 31 header, 32 row length, row count or
+ * character, 33 no open cell or more than 256, 34 a slice too short. 6144 and 65536 places are enough for any map.
+ * desk_open refuses no such task for 4 to 7. */
+uint64_t desk_map(const uint8_t *text, size_t text_len,
+                  uint32_t *passages, size_t passages_len,
+                  uint32_t *estimates, size_t estimates_len);
+
+/* Where a map's state lies, row times 65536 plus column, both from 0. DESK_NO_SPOT where the text is no map (desk_map
+ * would refuse it with 31 to 33) or has no such state. */
+#define DESK_NO_SPOT 4294967295u
+uint32_t desk_map_spot(const uint8_t *text, size_t text_len, size_t state);
+
+/* The state of the open cell at a row and column of a map. DESK_NO_STATE where the text is no map, or no open cell is
+ * there. */
+#define DESK_NO_STATE 65535u
+uint32_t desk_map_state(const uint8_t *text, size_t text_len, size_t row, size_t column);
 
 /* What deskrun prints for a task file: the text goes to the front of text, and its length is returned.
  * Where text has fewer than DESK_ROOM places nothing is written, and 0 is returned. */

@@ -9,7 +9,7 @@ use native.Mathlib.Omega.{arith}
 use lib.ListN.{length, getD}
 use lib.Dec.{ltb, leb, eqb}
 use borrow.Author.Tests.{ltb-true, leb-true, eqb-true}
-use Rattle.laws.specs.Truth.{and-left, and-right, or-either, provided}
+use Rattle.laws.specs.Truth.{and-left, and-right, or-either, provided, provided-kept}
 use Rattle.laws.specs.All.{all, all-at, all-stop}
 use Rattle.rule.specs.Task.{passageCount, near, far, cost, estimate, Whole}
 use Rattle.rule.specs.Marks.{isOut, none}
@@ -38,18 +38,13 @@ pub record Early (t : Task) : Type 0 where
   pub third : holds3 t ≡ true
   pub fourth : holds4 t ≡ true
 
--- a ladder that comes to 0 beside a refusal that isn't 0: its condition holds, and the rest comes to 0
-kept : (ok : Bool) (refusal call : ℕ) → (refusal ≡ 0 → ⊥) → provided ok refusal call ≡ 0 → (ok ≡ true) × (call ≡ 0)
-kept true refusal call n e = (refl, e)
-kept false refusal call n e = absurd (n e)
-
 pub early : (t : Task) → earlyFault t ≡ 0 → Early t
 unfolding earlyFault
 early t e =
-    let a = kept (holds1 t) 1 _ (λ q. omega arith) e in
-    let b = kept (holds2 t) 2 _ (λ q. omega arith) (a .1) in
-    let c = kept (holds3 t) 3 _ (λ q. omega arith) (b .1) in
-    let d = kept (holds4 t) 4 0 (λ q. omega arith) (c .1) in
+    let a = provided-kept (holds1 t) 1 _ (λ q. omega arith) e in
+    let b = provided-kept (holds2 t) 2 _ (λ q. omega arith) (a .1) in
+    let c = provided-kept (holds3 t) 3 _ (λ q. omega arith) (b .1) in
+    let d = provided-kept (holds4 t) 4 0 (λ q. omega arith) (c .1) in
     record { first = a .0; second = b .0; third = c .0; fourth = d .0 }
 
 pub right : (t : Task) → earlyFault t ≡ 0 → Right t

@@ -2,34 +2,24 @@
 use mathlib.Core.Path.{_≡_, refl, sym, ap, _∙_}
 use mathlib.Core.Bool.{Bool, true, false}
 use mathlib.Core.List.{List, [], _∷_, _++_, append-nil, append-assoc}
-use mathlib.Core.Logic.{⊎-elim}
-use Prim.Native.Nat.{ℕ, zero, suc, _+_, _≤_, _<_}
-use native.Mathlib.Nat.{le-of-suc-le-suc, not-suc-le-zero, eq-or-lt-of-le, zero-add}
+use Prim.Native.Nat.{ℕ, _+_, _≤_, _<_}
+use native.Mathlib.Nat.{zero-add}
 use native.Mathlib.Omega.{arith}
-use lib.ListN.{length, getD, set, take, drop, length-append, length-take, length-drop, drop-of-length-le, List·getD-append, take-append-drop}
-use lib.Seq.{ext-getD, getD-at, getD-take, getD-drop, drop-drop, set-getD}
+use lib.ListN.{length, getD, set, take, drop, length-append, length-take, length-drop, drop-of-length-le, take-append-drop}
+use lib.Seq.{ext-getD, getD-take, getD-drop, drop-drop, set-getD}
 use lib.Dec.{leb, eqb}
 use borrow.Author.Tests.{eqb-true, leb-true}
 use Rattle.laws.specs.Truth.{and-left, and-right}
 use Rattle.laws.specs.All.{all-at}
 use Rattle.laws.specs.Part.{overlaid}
-use Rattle.laws.specs.Fill.{made, made-length, Filled, filled-more, filled-end, overlaid-one, overlaid-next}
+use Rattle.laws.specs.Fill.{made, made-length, made-at, Filled, filled-more, filled-end, overlaid-one, overlaid-next}
 use Rattle.checks.specs.Opening.{Task, fault}
 use Rattle.checks.specs.Laws.{right, fault-none}
 use Rattle.desk.specs.declared.Machine.{Machine}
 use Rattle.desk.specs.Opening.{openingOf, openedMachine, blankMachine}
 use Rattle.deskc.specs.Row.{atMost, isRow, part, unpacked, changing, changed, packed}
 
--- a list made of elements has them at its places, and a list made of another's places is that list
-pub made-at : {X : Type 0} (f : ℕ → X) (n i : ℕ) (d : X) → i < n → getD (made f n) i d ≡ f i
-unfolding made
-made-at f zero i d l = absurd (not-suc-le-zero l)
-made-at f (suc n) i d l =
-    ⊎-elim
-    (λ q. rw q (getD-at (made f n) (f n) [] d n (made-length f n)))
-    (λ lt. List·getD-append (made f n) (f n ∷ []) d i (omega (arith, made-length f n)) ∙ made-at f n i d lt)
-    (eq-or-lt-of-le (le-of-suc-le-suc l))
-
+-- a list made of another's places is that list
 pub made-places : {X : Type 0} (l : List X) (d : X) (n : ℕ) → length l ≡ n → made (λ i. getD l i d) n ≡ l
 made-places l d n e = ext-getD d (made (λ i. getD l i d) n) l (made-length (λ i. getD l i d) n ∙ sym e) (λ i h. made-at (λ i. getD l i d) n i d (omega (arith, made-length (λ i. getD l i d) n)))
 

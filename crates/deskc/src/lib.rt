@@ -1,10 +1,13 @@
-// The desk for C: opening, Take, Bring, whole mornings, path reading and printing, over numbers and lent rows of numbers.
+// The desk for C: opening, Take, Bring, whole mornings, path reading, printing and maps, over numbers and lent rows of numbers.
 // include/route_desk.h declares each.
 ghost use mathlib.Core.Path.{_≡_};
 ghost use Rattle.checks.specs.Opening.{task};
+ghost use Rattle.gridmap.specs.Reading.{readMap, spotOf, stateAtSpot};
 ghost use Rattle.report.specs.Text.{reportLength, reportBuffer};
+ghost use Rattle.deskc.specs.Maps.{surveyCode, spotCode};
 ghost use Rattle.deskc.specs.Calls.{openRow, takeRow, bringRow, morningRow, pathRow};
 
+mod maps;
 mod row;
 
 use desk::Machine;
@@ -131,4 +134,30 @@ pub extern "C" fn desk_print(file: &[u8], text: &mut [u8]) -> usize
     ensures { λ r. ⌜ now (text .exit) ≡ reportBuffer (now (file .entry)) (now (text .entry)) ⌝ }
 {
     report::report(file, text)
+}
+
+#[no_mangle]
+pub extern "C" fn desk_map(text: &[u8], passages: &mut [u32], estimates: &mut [u32]) -> u64
+    ensures { λ r. ⌜ r ≡ surveyCode (readMap (now (text .entry)) (now (passages .entry)) (now (estimates .entry)) .reply) ⌝ }
+    ensures { λ r. ⌜ now (passages .exit) ≡ readMap (now (text .entry)) (now (passages .entry)) (now (estimates .entry)) .passages ⌝ }
+    ensures { λ r. ⌜ now (estimates .exit) ≡ readMap (now (text .entry)) (now (passages .entry)) (now (estimates .entry)) .estimates ⌝ }
+{
+    let survey = gridmap::read_map(text, passages, estimates);
+    maps::survey_code(survey)
+}
+
+#[no_mangle]
+pub extern "C" fn desk_map_spot(text: &[u8], state: usize) -> u32
+    ensures { λ r. ⌜ r ≡ spotCode (spotOf (now (text .entry)) state) ⌝ }
+{
+    let spot = gridmap::spot_of(text, state);
+    maps::spot_code(spot)
+}
+
+#[no_mangle]
+pub extern "C" fn desk_map_state(text: &[u8], row: usize, column: usize) -> u32
+    ensures { λ r. ⌜ r ≡ stateAtSpot (now (text .entry)) row column ⌝ }
+{
+    let state = gridmap::state_at(text, row, column);
+    row::wide16(state)
 }

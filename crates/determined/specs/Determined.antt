@@ -12,6 +12,9 @@ use Rattle.desk.specs.Morning.{morningOf}
 use Rattle.desk.specs.Path.{pathOf}
 use Rattle.taskfile.specs.declared.Outcome.{Outcome}
 use Rattle.taskfile.specs.Contents.{readOf}
+use Rattle.gridmap.specs.declared.Survey.{Survey}
+use Rattle.gridmap.specs.declared.Spot.{Spot}
+use Rattle.gridmap.specs.Reading.{readMap, spotOf, stateAtSpot}
 use Rattle.report.specs.Text.{reportLength, reportBuffer}
 use Rattle.laws.specs.Put.{Put}
 use Rattle.deskc.specs.Calls.{openRow, takeRow, bringRow, morningRow, pathRow}
@@ -57,6 +60,20 @@ module _ (file passages estimates calls : List ℕ) where
 
   pub read-calls : (b b′ : List ℕ) → b ≡ readOf file passages estimates calls .calls → b′ ≡ readOf file passages estimates calls .calls → b ≡ b′
   read-calls b b′ = same
+
+-- the maps' reader: the reply, and every place of the two slices; and the two ways between states and cells
+module _ (text : List ℕ) where
+  pub map-determined : (passages estimates : List ℕ) (r r′ : Survey) (b b′ c c′ : List ℕ)
+      → r ≡ readMap text passages estimates .reply → b ≡ readMap text passages estimates .passages → c ≡ readMap text passages estimates .estimates
+      → r′ ≡ readMap text passages estimates .reply → b′ ≡ readMap text passages estimates .passages → c′ ≡ readMap text passages estimates .estimates
+      → (r ≡ r′) × (b ≡ b′) × (c ≡ c′)
+  map-determined passages estimates r r′ b b′ c c′ e f g e′ f′ g′ = (same e e′, same f f′, same g g′)
+
+  pub spot-determined : (s : ℕ) (r r′ : Spot) → r ≡ spotOf text s → r′ ≡ spotOf text s → r ≡ r′
+  spot-determined s r r′ = same
+
+  pub state-determined : (row column r r′ : ℕ) → r ≡ stateAtSpot text row column → r′ ≡ stateAtSpot text row column → r ≡ r′
+  state-determined row column r r′ = same
 
 -- printing: the length, and every place of the buffer
 pub report-determined : (file out : List ℕ) (r r′ : ℕ) (b b′ : List ℕ) → r ≡ reportLength file out → b ≡ reportBuffer file out → r′ ≡ reportLength file out → b′ ≡ reportBuffer file out

@@ -4,7 +4,7 @@ use mathlib.Core.Path.{_≡_, refl, sym, ap, _∙_}
 use mathlib.Core.Logic.{_≢_}
 use mathlib.Core.Bool.{Bool, true, false, not, _&&_}
 use Prim.Native.Nat.{ℕ, zero, suc, _+_, _≤_, _<_}
-use native.Mathlib.Decide.{ℕ-discrete}
+use native.Mathlib.Decide.{ℕ-discrete, decLt}
 use native.Mathlib.Numerals.{add-one}
 use native.Mathlib.Omega.{arith}
 use lib.Dec.{eqb}
@@ -110,3 +110,30 @@ count-only p n i j e l k a b = go (ℕ-discrete i j)
     go : Dec (i ≡ j) → i ≡ j
     go (yes z) = z
     go (no z) = absurd (omega (arith, one-less, count-suc q r n j k at-j (and-both b (ap not (ne-eqb j i (λ y. z (sym y))))) (λ x m d. keep (r x) (not (eqb x j)) (ap not (ne-eqb x j d)))))
+
+-- the numbers that pass, by how many pass before them: no fewer before a later one, more past one that passes; and each is found by that
+module _ (p : ℕ → Bool) where
+  pub count-rises : (i n : ℕ) → i ≤ n → count p i ≤ count p n
+  unfolding count
+  count-rises i zero l = let e : i ≡ 0 = omega arith in rw e (omega arith)
+  count-rises i (suc n) l = go (λ k. count-rises i n k) (ℕ-discrete i (suc n))
+    where
+      go : (i ≤ n → count p i ≤ count p n) → Dec (i ≡ suc n) → count p i ≤ count p (suc n)
+      go ih (yes e) = rw e (omega arith)
+      go ih (no d) = omega (arith, ih (omega arith))
+
+  pub count-before : (i n : ℕ) → i < n → p i ≡ true → count p i < count p n
+  count-before i n l e = omega (arith, count-yes p i e, count-rises (i + 1) n (omega arith))
+
+  pub count-find : (n s : ℕ) → s < count p n → (j : ℕ) × (j < n) × (p j ≡ true) × (count p j ≡ s)
+  unfolding count
+  count-find zero s l = absurd (omega arith)
+  count-find (suc n) s l = go (λ k. count-find n s k) (p n) refl (decLt s (count p n))
+    where
+      Found : ℕ → Type 0
+      Found m = (j : ℕ) × (j < m) × (p j ≡ true) × (count p j ≡ s)
+
+      go : (s < count p n → Found n) → (b : Bool) → p n ≡ b → Dec (s < count p n) → Found (suc n)
+      go ih b e (yes k) = let (j, m, h, c) = ih k in (j, omega arith, h, c)
+      go ih true e (no k) = (n, omega arith, e, omega (arith, rw e at l))
+      go ih false e (no k) = absurd (k (omega (arith, rw e at l)))

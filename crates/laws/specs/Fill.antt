@@ -4,10 +4,11 @@ use mathlib.Core.Path.{_≡_, refl, sym, ap, _∙_}
 use mathlib.Core.List.{List, [], _∷_, _++_, append-assoc}
 use Prim.Native.Nat.{ℕ, zero, suc, _+_, _≤_, _<_}
 use native.Mathlib.Nat.{add-zero, add-assoc}
+use native.Mathlib.Decide.{ℕ-discrete}
 use native.Mathlib.Numerals.{add-one}
 use native.Mathlib.Omega.{arith}
-use lib.ListN.{length, set, take, drop, length-append, length-take, length-drop, length-set, take-append-drop}
-use lib.Seq.{set-split, take-at, drop-at, drop-drop}
+use lib.ListN.{length, getD, set, take, drop, List·getD-append, length-append, length-take, length-drop, length-set, take-append-drop}
+use lib.Seq.{getD-at, set-split, take-at, drop-at, drop-drop}
 use Rattle.laws.specs.Part.{overlaid}
 
 -- f 0, f 1, .. f (n - 1)
@@ -23,6 +24,15 @@ pub made-length : {X : Type 0} (f : ℕ → X) (n : ℕ) → length (made f n) �
 unfolding made
 made-length f zero = refl
 made-length f (suc i) = length-append (made f i) (f i ∷ []) ∙ omega (arith, made-length f i)
+
+pub made-at : {X : Type 0} (f : ℕ → X) (n i : ℕ) (d : X) → i < n → getD (made f n) i d ≡ f i
+unfolding made
+made-at f zero i d l = absurd (omega arith)
+made-at f (suc n) i d l = go (λ k. made-at f n i d k) (ℕ-discrete i n)
+  where
+    go : (i < n → getD (made f n) i d ≡ f i) → Dec (i ≡ n) → getD (made f (suc n)) i d ≡ f i
+    go ih (yes e) = rw e (getD-at (made f n) (f n) [] d n (made-length f n))
+    go ih (no q) = List·getD-append (made f n) (f n ∷ []) d i (omega (arith, made-length f n)) ∙ ih (omega arith)
 
 -- nothing written; the length stays; one list written after another is both in a row
 module _ {X : Type 0} (at : ℕ) (l : List X) where
@@ -43,6 +53,14 @@ module _ {X : Type 0} (at : ℕ) (l : List X) where
 
     pub overlaid-more : (ys : List X) → overlaid (at + length xs) ys (overlaid at xs l) ≡ overlaid at (xs ++ ys) l
     overlaid-more ys = rw (front, behind (length ys), append-assoc, append-assoc, length-append, add-assoc)
+
+-- what was written at the front stands there
+module _ {X : Type 0} (xs l : List X) where
+  pub overlaid-front : take (length xs) (overlaid 0 xs l) ≡ xs
+  overlaid-front = take-at xs (drop (0 + length xs) l) (length xs) refl
+
+  pub overlaid-at : (i : ℕ) (d : X) → i < length xs → getD (overlaid 0 xs l) i d ≡ getD xs i d
+  overlaid-at i d h = List·getD-append xs (drop (0 + length xs) l) d i h
 
 -- one place stored
 pub overlaid-one : {X : Type 0} (at : ℕ) (l : List X) (v : X) → at < length l → set l at v ≡ overlaid at (v ∷ []) l

@@ -10,5 +10,6 @@ pub mod Table
 pub mod Difference
 pub mod Part
 pub mod Fill
+pub mod Gather
 pub mod Put
 pub mod Map

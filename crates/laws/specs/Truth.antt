@@ -3,6 +3,7 @@
 use mathlib.Core.Path.{_≡_, refl}
 use mathlib.Core.Bool.{Bool, true, false, _&&_, _||_, false≢true}
 use mathlib.Core.Logic.{_⊎_, inl, inr}
+use Prim.Native.Nat.{ℕ}
 
 pub and-left : (a b : Bool) → (a && b) ≡ true → a ≡ true
 and-left true b e = refl
@@ -36,3 +37,8 @@ provided false refusal call = refusal
 pub provided-either : {A : Type 0} (P : A → Type 0) (ok : Bool) (refusal call : A) → P refusal → (ok ≡ true → P call) → P (provided ok refusal call)
 provided-either P true refusal call r c = c refl
 provided-either P false refusal call r c = r
+
+-- a ladder that comes to 0 beside a refusal that isn't 0: its condition holds, and the rest comes to 0
+pub provided-kept : (ok : Bool) (refusal call : ℕ) → (refusal ≡ 0 → ⊥) → provided ok refusal call ≡ 0 → (ok ≡ true) × (call ≡ 0)
+provided-kept true refusal call n e = (refl, e)
+provided-kept false refusal call n e = absurd (n e)

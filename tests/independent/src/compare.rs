@@ -7,25 +7,30 @@ use crate::desks::{Checked, Desks};
 use crate::maker::{self, Rng};
 use crate::rows::{self, Independent, RowDesk, PHASE, PRINT_ROOM, ROW};
 
+mod maps;
+
 /// Runs one case; says what differs or goes against demand 3 or an order.
 pub fn run_case(desks: &mut Desks, seed: u64, case: u64) -> Checked<()> {
     let mut rng = Rng::new(seed, case);
     match rng.below(100) {
-        0..=39 => search(desks, &mut rng),
-        40..=54 => refused_opening(desks, &mut rng),
-        55..=72 => made_up(desks, &mut rng),
-        73..=88 => file(desks, &mut rng),
-        89..=94 => mornings(desks, &mut rng),
-        _ => made_up_mornings(desks, &mut rng),
+        0..=37 => {
+            let task = maker::task(&mut rng);
+            search(desks, &mut rng, &task)
+        }
+        38..=50 => refused_opening(desks, &mut rng),
+        51..=66 => made_up(desks, &mut rng),
+        67..=80 => file(desks, &mut rng),
+        81..=86 => mornings(desks, &mut rng),
+        87..=91 => made_up_mornings(desks, &mut rng),
+        _ => maps::map(desks, &mut rng),
     }
 }
 
 /// An accepted task, calls until it ends and a little on, and path readings.
-fn search(desks: &mut Desks, rng: &mut Rng) -> Checked<()> {
-    let task = maker::task(rng);
+fn search(desks: &mut Desks, rng: &mut Rng, task: &Task) -> Checked<()> {
     let mut row = junk(ROW);
-    desks.expect_opened(&task, &mut row)?;
-    let mut watch = Watch::new(&task);
+    desks.expect_opened(task, &mut row)?;
+    let mut watch = Watch::new(task);
     let eager_percent = rng.between(30, 100);
     let mut calls_left = rng.pick(&[6, 20, 20]) * task.head.n + 10;
     while calls_left > 0 {
@@ -33,18 +38,18 @@ fn search(desks: &mut Desks, rng: &mut Rng) -> Checked<()> {
         let reply = desks.call(action, &mut row, task.graph(), worker)?;
         watch.see(reply)?;
         if rng.percent(3) {
-            read_path(desks, rng, &row, &task)?;
+            read_path(desks, rng, &row, task)?;
         }
         match reply {
             Reply::Found(cost) => {
-                check_path(desks, &watch, &row, &task, cost)?;
+                check_path(desks, &watch, &row, task, cost)?;
                 calls_left = calls_left.min(2);
             }
             Reply::NoPath => calls_left = calls_left.min(2),
             _ => calls_left -= 1,
         }
     }
-    read_end(desks, rng, row, &task)
+    read_end(desks, rng, row, task)
 }
 
 /// Readings of an ended search's path, and of that path after some damage.

@@ -5,11 +5,14 @@
 //!
 //! And what document 02 asks on any machine: of a Wait (order 1), checked with own
 //! sums, that it names the state that is waited for; of a morning (order 2) that
-//! it leaves what as many single calls to the same desk leave.
+//! it leaves what as many single calls to the same desk leave. What order 3 asks
+//! is in `maps`.
 
 use crate::desk::{Graph, Machine, Reply, Task, MAX_STATES, OPEN, OUT};
 use crate::morning::Event;
 use crate::rows::{self, RowDesk, Shown, VIAS};
+
+pub mod maps;
 
 /// Follows the replies to one task's calls.
 pub struct Watch<'a> {

@@ -1,11 +1,12 @@
 //! Both desks, called alike: every reply, every number handed back, every place
-//! of every buffer and the printed text are compared. Every Wait is held against
-//! order 1 of document 02 and every morning against order 2; without a library
-//! only that is done.
+//! of every lent slice and the printed text are compared. Every Wait is held
+//! against order 1 of document 02 and every morning against order 2; without a
+//! library only that is done.
 
 use crate::demand::{self, Morning};
 use crate::desk::{Action, Graph, Reply, Task};
-use crate::rows::{self, Independent, RowDesk, Shown};
+use crate::map::Cell;
+use crate::rows::{self, Independent, RowDesk, Shown, NO_SPOT, NO_STATE};
 use crate::tally::Tally;
 use std::fmt::Debug;
 
@@ -31,6 +32,12 @@ impl<'a> Desks<'a> {
             tally: Tally::default(),
             paper: Vec::new(),
         }
+    }
+
+    /// The desk that is held against the orders: the library where there is one.
+    /// Its answers have been compared with the independent desk's before.
+    pub fn checked(&self) -> &'a dyn RowDesk {
+        self.library.unwrap_or(&Independent)
     }
 
     /// Prints a step of a case that is replayed.
@@ -88,8 +95,7 @@ impl<'a> Desks<'a> {
         })
     }
 
-    /// A morning, held against as many single calls to the library, or to the
-    /// independent desk where there is none.
+    /// A morning, held against as many single calls.
     pub fn morning(
         &mut self,
         row: &mut [u32],
@@ -102,7 +108,7 @@ impl<'a> Desks<'a> {
         let call = |desk: &dyn RowDesk, row: &mut [u32], replies: &mut [u64]| {
             desk.morning(row, graph, events, replies)
         };
-        let code = self.both_lent("morning", row, replies, call)?;
+        let code = self.both_lent("morning", show_reply, (row, replies), call)?;
         let reply = self.count_reply("morning", code)?;
         let morning = Morning {
             graph,
@@ -110,13 +116,54 @@ impl<'a> Desks<'a> {
             row: [&row_before, row],
             replies: [&replies_before, replies],
         };
-        demand::see_morning(self.library.unwrap_or(&Independent), reply, &morning)?;
+        demand::see_morning(self.checked(), reply, &morning)?;
         if reply == Reply::Done {
             for &code in &replies[..events.len()] {
                 self.count_reply("event", code)?;
             }
         }
         Ok(reply)
+    }
+
+    /// A map read into lent slices: the number of its counts.
+    pub fn map(
+        &mut self,
+        text: &[u8],
+        passages: &mut [u32],
+        estimates: &mut [u32],
+    ) -> Checked<u64> {
+        self.show(|| format!("map into {} and {}", passages.len(), estimates.len()));
+        let call = |desk: &dyn RowDesk, passages: &mut [u32], estimates: &mut [u32]| {
+            desk.map(text, passages, estimates)
+        };
+        let number = self.both_lent("map", rows::show_map, (passages, estimates), call)?;
+        self.tally.add_map(rows::map_counts(number).err());
+        Ok(number)
+    }
+
+    /// Where a map's state lies.
+    pub fn map_spot(&mut self, text: &[u8], state: usize) -> Checked<()> {
+        self.show(|| format!("spot of state {state}"));
+        let spot = self.both_number("map_spot", |desk| desk.map_spot(text, state))?;
+        self.tally.add_answer("map_spot", spot != NO_SPOT);
+        Ok(())
+    }
+
+    /// The state of a map's cell.
+    pub fn map_state(&mut self, text: &[u8], cell: Cell) -> Checked<()> {
+        self.show(|| format!("state of {cell:?}"));
+        let Cell { row, column } = cell;
+        let state = self.both_number("map_state", |desk| desk.map_state(text, row, column))?;
+        self.tally.add_answer("map_state", state != NO_STATE);
+        Ok(())
+    }
+
+    /// A call that writes nothing.
+    fn both_number(&self, what: &str, call: impl Fn(&dyn RowDesk) -> u32) -> Checked<u32> {
+        let none: (&mut [u8], &mut [u8]) = (&mut [], &mut []);
+        let call = |desk: &dyn RowDesk, _: &mut [u8], _: &mut [u8]| u64::from(call(desk));
+        let number = self.both_lent(what, |number| format!("{number:#x}"), none, call)?;
+        Ok(number as u32)
     }
 
     /// A call that writes to one slice, and its reply.
@@ -127,33 +174,34 @@ impl<'a> Desks<'a> {
         call: impl Fn(&dyn RowDesk, &mut [T]) -> u64,
     ) -> Checked<Reply> {
         let none: &mut [u8] = &mut [];
-        let code = self.both_lent(what, places, none, |desk, places, _| call(desk, places))?;
+        let call = |desk: &dyn RowDesk, places: &mut [T], _: &mut [u8]| call(desk, places);
+        let code = self.both_lent(what, show_reply, (places, none), call)?;
         self.count_reply(what, code)
     }
 
     /// Makes the same call to both desks, each with its own copies of the slices
-    /// it may write to, and compares replies and places.
+    /// it may write to, and compares the numbers returned and the places.
     fn both_lent<A: Place, B: Place>(
         &self,
         what: &str,
-        first: &mut [A],
-        second: &mut [B],
+        shown: fn(u64) -> String,
+        (first, second): (&mut [A], &mut [B]),
         call: impl Fn(&dyn RowDesk, &mut [A], &mut [B]) -> u64,
     ) -> Checked<u64> {
         let theirs = self.library.map(|library| {
             let (mut first, mut second) = (Guarded::new(first), Guarded::new(second));
-            let code = call(library, first.inner(), second.inner());
-            (code, first, second)
+            let number = call(library, first.inner(), second.inner());
+            (number, first, second)
         });
-        let code = call(&Independent, first, second);
-        self.show(|| format!("  independent: {}", Shown(code)));
-        if let Some((their_code, their_first, their_second)) = theirs {
-            self.show(|| format!("  library:     {}", Shown(their_code)));
-            same_reply(what, their_code, code)?;
+        let number = call(&Independent, first, second);
+        self.show(|| format!("  independent: {}", shown(number)));
+        if let Some((their_number, their_first, their_second)) = theirs {
+            self.show(|| format!("  library:     {}", shown(their_number)));
+            same_number(what, shown, their_number, number)?;
             their_first.compare(what, first)?;
             their_second.compare(&format!("{what}, second slice"), second)?;
         }
-        Ok(code)
+        Ok(number)
     }
 
     /// The reply of a code, counted as one to `what`.
@@ -193,13 +241,22 @@ fn text_of(out: &[u8], length: usize) -> String {
     String::from_utf8_lossy(&out[..length.min(out.len())]).into_owned()
 }
 
-fn same_reply(what: &str, library: u64, independent: u64) -> Checked<()> {
+fn show_reply(code: u64) -> String {
+    Shown(code).to_string()
+}
+
+fn same_number(
+    what: &str,
+    shown: fn(u64) -> String,
+    library: u64,
+    independent: u64,
+) -> Checked<()> {
     match library == independent {
         true => Ok(()),
         false => Err(format!(
             "{what}: library {}, independent {}",
-            Shown(library),
-            Shown(independent)
+            shown(library),
+            shown(independent)
         )),
     }
 }

@@ -1,8 +1,9 @@
-//! An independent route desk, written from document 01 and orders 1 and 2 of
+//! An independent route desk, written from document 01 and orders 1 to 3 of
 //! document 02 alone, and what compares the proved desk with it.
 //!
 //! - `desk`: the task, the machine, opening, Take, Bring and path reading.
 //! - `morning`: the events of a list that one call serves.
+//! - `map`: the reader of grid maps and the task that a map comes to.
 //! - `taskfile`: the task file's reader and the text `deskrun` prints.
 //! - `rows`: the interface by number rows that both desks are called through.
 //! - `library`: the proved desk behind that interface (the only unsafe code).
@@ -11,6 +12,7 @@
 //!   what the orders ask of a Wait and of a morning.
 //! - `compare`: one case of the comparison.
 //! - `desks`: both desks, called alike.
+//! - `samples`: the sample maps.
 //! - `tally`: counts of what the cases met.
 //! - `runs`: the runs of document 01, and the orders' own, for either desk.
 //!
@@ -19,6 +21,7 @@
 //! cargo run --release --offline --bin compare -- --self
 //! DESK_LIB_DIR=FOLDER cargo build --release --offline
 //! target/release/compare --cases 100000 --seed 1
+//! target/release/compare --maps ../../samples/maps
 //! target/release/bench
 //! ```
 
@@ -32,9 +35,11 @@ pub mod desks;
 #[allow(unsafe_code)]
 pub mod library;
 pub mod maker;
+pub mod map;
 pub mod morning;
 pub mod rows;
 pub mod runs;
+pub mod samples;
 pub mod tally;
 pub mod taskfile;
 #[cfg(test)]

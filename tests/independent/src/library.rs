@@ -65,6 +65,19 @@ extern "C" {
         replies_len: usize,
     ) -> u64;
 
+    fn desk_map(
+        text: *const u8,
+        text_len: usize,
+        passages: *mut u32,
+        passages_len: usize,
+        estimates: *mut u32,
+        estimates_len: usize,
+    ) -> u64;
+
+    fn desk_map_spot(text: *const u8, text_len: usize, state: usize) -> u32;
+
+    fn desk_map_state(text: *const u8, text_len: usize, row: usize, column: usize) -> u32;
+
     fn desk_print(file: *const u8, file_len: usize, out: *mut u8, out_len: usize) -> usize;
 }
 
@@ -156,6 +169,30 @@ impl RowDesk for Library {
                 replies.len(),
             )
         }
+    }
+
+    fn map(&self, text: &[u8], passages: &mut [u32], estimates: &mut [u32]) -> u64 {
+        // SAFETY: each pointer goes with the length of the slice it comes from.
+        unsafe {
+            desk_map(
+                text.as_ptr(),
+                text.len(),
+                passages.as_mut_ptr(),
+                passages.len(),
+                estimates.as_mut_ptr(),
+                estimates.len(),
+            )
+        }
+    }
+
+    fn map_spot(&self, text: &[u8], state: usize) -> u32 {
+        // SAFETY: each pointer goes with the length of the slice it comes from.
+        unsafe { desk_map_spot(text.as_ptr(), text.len(), state) }
+    }
+
+    fn map_state(&self, text: &[u8], row: usize, column: usize) -> u32 {
+        // SAFETY: each pointer goes with the length of the slice it comes from.
+        unsafe { desk_map_state(text.as_ptr(), text.len(), row, column) }
     }
 
     fn print(&self, file: &[u8], out: &mut [u8]) -> usize {

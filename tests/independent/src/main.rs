@@ -1,5 +1,7 @@
 //! `compare`: random comparison of the proved desk with the independent one.
 //!
+//! `--maps FOLDER` reads the sample maps of a folder instead, with the independent
+//! reader and, where it is linked, the library's.
 //! Options: `--cases N` (100000), `--seed S` (1), `--seconds LIMIT`,
 //! `--case I` (replays one case of the seed, step by step), `--self` (compares
 //! nothing: only the documents' runs, demand 3 and the orders' checks on the
@@ -11,6 +13,8 @@ use independent::compare::run_case;
 use independent::desks::Desks;
 use independent::rows::{Independent, RowDesk};
 use independent::runs;
+use independent::samples::check_maps;
+use std::path::{Path, PathBuf};
 use std::process::ExitCode;
 use std::time::{Duration, Instant};
 
@@ -21,6 +25,7 @@ struct Options {
     only_case: Option<u64>,
     only_self: bool,
     progress: bool,
+    maps: Option<PathBuf>,
 }
 
 fn main() -> ExitCode {
@@ -31,6 +36,9 @@ fn main() -> ExitCode {
             return ExitCode::from(2);
         }
     };
+    if let Some(folder) = &options.maps {
+        return report_maps(folder);
+    }
     let library = match (options.only_self, independent::library()) {
         (true, _) => None,
         (false, Some(library)) => Some(library),
@@ -56,10 +64,12 @@ fn read_options(mut words: impl Iterator<Item = String>) -> Result<Options, Stri
         only_case: None,
         only_self: false,
         progress: false,
+        maps: None,
     };
     while let Some(word) = words.next() {
+        let mut value = || words.next().ok_or(format!("{word} asks for a value"));
         let mut number = || {
-            let text = words.next().ok_or(format!("{word} asks for a number"))?;
+            let text = value()?;
             text.parse::<u64>()
                 .map_err(|_| format!("{word}: {text} is no number"))
         };
@@ -70,6 +80,7 @@ fn read_options(mut words: impl Iterator<Item = String>) -> Result<Options, Stri
             "--case" => options.only_case = Some(number()?),
             "--self" => options.only_self = true,
             "--progress" => options.progress = true,
+            "--maps" => options.maps = Some(value()?.into()),
             _ => return Err(format!("unknown option {word}")),
         }
     }
@@ -106,12 +117,26 @@ fn report_runs(name: &str, desk: &dyn RowDesk) -> u64 {
     for failure in &failures {
         println!("difference: {name}: {failure}");
     }
-    let all = runs::RUNS.len();
+    let all = runs::all().count();
     println!(
         "{name}: {} of {all} runs of the documents pass",
         all - failures.len()
     );
     failures.len() as u64
+}
+
+/// Reads the sample maps; status 1 where one isn't as expected, or there is none.
+fn report_maps(folder: &Path) -> ExitCode {
+    let mut desks = Desks::new(independent::library(), false);
+    let (as_expected, faults) = match check_maps(&mut desks, folder) {
+        Ok(outcome) => outcome,
+        Err(fault) => (0, vec![fault]),
+    };
+    for fault in &faults {
+        println!("difference: {fault}");
+    }
+    println!("maps: {as_expected} read as expected");
+    ExitCode::from(u8::from(as_expected == 0 || !faults.is_empty()))
 }
 
 fn report_case(desks: &mut Desks, seed: u64, case: u64) -> u64 {

@@ -1,5 +1,5 @@
-//! The random maker: tasks, made-up machines, calls, mornings, buffers and task
-//! files, good and damaged, all drawn from a seed and a case number.
+//! The random maker: tasks, made-up machines, calls, mornings, buffers, maps and
+//! task files, good and damaged, all drawn from a seed and a case number.
 
 use crate::desk::{
     Action, Graph, Head, Task, MAX_COST, MAX_LABEL, MAX_PASSAGES, NONE, OPEN, OUT, SEARCHING,
@@ -8,8 +8,10 @@ use crate::desk::{
 use crate::rows::{Independent, RowDesk, HELD, LABELS, MARKS, PHASE, ROW, VIAS};
 use crate::taskfile::MAX_FILE;
 
+mod map;
 mod morning;
 
+pub use map::{lent, map, map_cell, map_state, map_task};
 pub use morning::morning;
 
 /// A small generator of random numbers (splitmix64).
@@ -349,6 +351,17 @@ pub fn buffer(rng: &mut Rng, count: usize) -> (Vec<u16>, usize) {
     };
     let buffer = (0..len).map(|_| rng.next() as u16).collect();
     (buffer, at)
+}
+
+/// The length of a slice that is lent for this many numbers: sometimes too short,
+/// else just long enough or longer.
+fn lent_len(rng: &mut Rng, count: usize) -> usize {
+    match rng.below(24) {
+        0 => count.saturating_sub(1),
+        1 => rng.between(0, count),
+        2..=11 => count,
+        _ => count + rng.between(1, 9),
+    }
 }
 
 // ---- Made-up machines ----

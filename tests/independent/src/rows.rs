@@ -1,8 +1,10 @@
 //! The interface that both desks are called through: a machine as a row of 807
-//! numbers, a reply as one number. `Independent` puts the independent desk
-//! behind it, so that comparison and bench treat both desks alike.
+//! numbers, a reply as one number; a map's counts and cells as one number too.
+//! `Independent` puts the independent desk behind it, so that comparison and bench
+//! treat both desks alike.
 
 use crate::desk::{Action, Graph, Head, Machine, Reply, Task, MAX_STATES, MAX_WORKERS};
+use crate::map::{Cell, Map};
 use crate::morning;
 use crate::taskfile;
 use std::fmt;
@@ -18,6 +20,10 @@ pub const HELD: usize = VIAS + MAX_STATES;
 /// The room that `print` asks for.
 pub const PRINT_ROOM: usize = 589_824;
 
+/// What `map_spot` and `map_state` give where there is nothing to give.
+pub const NO_SPOT: u32 = u32::MAX;
+pub const NO_STATE: u32 = 65_535;
+
 /// A desk by number rows.
 pub trait RowDesk {
     fn open(&self, task: &Task, row: &mut [u32]) -> u64;
@@ -26,6 +32,13 @@ pub trait RowDesk {
     fn path(&self, row: &[u32], graph: Graph, buffer: &mut [u16], at: usize) -> u64;
     /// Serves events by number; their replies go to the front of `replies`.
     fn morning(&self, row: &mut [u32], graph: Graph, events: &[u32], replies: &mut [u64]) -> u64;
+    /// Reads a map into the fronts of the slices: cells * 2^32 + passages, or the
+    /// refusal's number.
+    fn map(&self, text: &[u8], passages: &mut [u32], estimates: &mut [u32]) -> u64;
+    /// Where a map's state lies: row * 65,536 + column, or `NO_SPOT`.
+    fn map_spot(&self, text: &[u8], state: usize) -> u32;
+    /// The state of a map's cell, or `NO_STATE`.
+    fn map_state(&self, text: &[u8], row: usize, column: usize) -> u32;
     fn print(&self, file: &[u8], out: &mut [u8]) -> usize;
 
     fn call(&self, action: Action, row: &mut [u32], graph: Graph, worker: usize) -> u64 {
@@ -66,6 +79,24 @@ pub fn reply(code: u64) -> Option<Reply> {
         (7, _) => Some(Reply::Refused(value)),
         (8, 0) => Some(Reply::Done),
         _ => None,
+    }
+}
+
+/// The counts of cells and passages that reading a map gave, or the refusal's
+/// number, which alone has no cells beside it.
+pub fn map_counts(number: u64) -> Result<(usize, usize), u32> {
+    let low = number as u32;
+    match (number >> 32) as usize {
+        0 => Err(low),
+        cells => Ok((cells, low as usize)),
+    }
+}
+
+/// What reading a map gave, as it is shown in reports and stands beside samples.
+pub fn show_map(number: u64) -> String {
+    match map_counts(number) {
+        Ok((cells, passages)) => format!("{cells} {passages}"),
+        Err(number) => format!("refused {number}"),
     }
 }
 
@@ -196,6 +227,36 @@ impl RowDesk for Independent {
             }),
             Err(number) => code(Reply::Refused(number)),
         }
+    }
+
+    fn map(&self, text: &[u8], passages: &mut [u32], estimates: &mut [u32]) -> u64 {
+        let map = match Map::read(text) {
+            Ok(map) => map,
+            Err(number) => return u64::from(number),
+        };
+        let (all_passages, all_estimates) = (map.passages(), map.estimates());
+        let lent = (
+            passages.get_mut(..all_passages.len()),
+            estimates.get_mut(..all_estimates.len()),
+        );
+        let (Some(passages), Some(estimates)) = lent else {
+            return 34;
+        };
+        passages.copy_from_slice(&all_passages);
+        estimates.copy_from_slice(&all_estimates);
+        let (cells, count) = (map.cells() as u64, passages.len() as u64 / 3);
+        (cells << 32) | count
+    }
+
+    fn map_spot(&self, text: &[u8], state: usize) -> u32 {
+        let spot = Map::read(text).ok().and_then(|map| map.spot(state));
+        spot.map_or(NO_SPOT, |cell| (cell.row << 16 | cell.column) as u32)
+    }
+
+    fn map_state(&self, text: &[u8], row: usize, column: usize) -> u32 {
+        let map = Map::read(text).ok();
+        let state = map.and_then(|map| map.state(Cell { row, column }));
+        state.map_or(NO_STATE, |state| state as u32)
     }
 
     fn print(&self, file: &[u8], out: &mut [u8]) -> usize {

@@ -1,11 +1,13 @@
 //! The runs of document 01, A1 to C6 and the unstarred ones, for either desk;
 //! their Waits name the state that order 1 of document 02 adds. Then runs of the
-//! sentences of order 2.
+//! later orders' sentences.
 
 use crate::desk::{Action, Head, Reply, Task};
 use crate::maker;
-use crate::morning::Event;
-use crate::rows::{self, RowDesk, Shown, PHASE, PRINT_ROOM, ROW};
+use crate::rows::{self, RowDesk, Shown, PRINT_ROOM, ROW};
+
+mod maps;
+mod morning;
 
 const A1_TEXT: &str = "\
 took 0 0
@@ -26,22 +28,6 @@ path 0 1 2 3 4
 
 const A1_CALLS: &str = "T0 T1 B0 T0 T1 B0 T1 T0 B1 T0 T1 B0 T1";
 
-const A1_REPLIES: [Reply; 13] = [
-    Reply::Took(0),
-    Reply::Wait(0),
-    Reply::Brought(2),
-    Reply::Took(1),
-    Reply::Wait(1),
-    Reply::Brought(2),
-    Reply::Took(2),
-    Reply::Wait(2),
-    Reply::Brought(1),
-    Reply::Took(3),
-    Reply::Wait(3),
-    Reply::Brought(1),
-    Reply::Found(6),
-];
-
 /// A run: its name, and whether a desk's answers are the document's.
 pub struct Run {
     pub name: &'static str,
@@ -50,13 +36,19 @@ pub struct Run {
 
 /// The names of the runs that fail on a desk, with what they gave.
 pub fn failures(desk: &dyn RowDesk) -> Vec<String> {
-    let outcomes = RUNS.iter().map(|run| (run.name, (run.check)(desk)));
+    let outcomes = all().map(|run| (run.name, (run.check)(desk)));
     outcomes
         .filter_map(|(name, outcome)| outcome.err().map(|fault| format!("run {name}: {fault}")))
         .collect()
 }
 
-pub const RUNS: &[Run] = &[
+pub fn all() -> impl Iterator<Item = &'static Run> {
+    [DOCUMENT_01, morning::RUNS, maps::RUNS]
+        .into_iter()
+        .flatten()
+}
+
+const DOCUMENT_01: &[Run] = &[
     Run {
         name: "A1",
         check: |desk| {
@@ -175,66 +167,7 @@ pub const RUNS: &[Run] = &[
             expect_text(desk, &file, "opening 2\n")
         },
     },
-    Run {
-        name: "order 2: A1 in one call",
-        check: |desk| {
-            let (last, _) = run(desk, &task_a(), A1_CALLS);
-            let mut row = opened_a(desk);
-            let left = [codes(&A1_REPLIES), vec![LENT; 2]].concat();
-            expect_morning(desk, &mut row, &events(A1_CALLS), Reply::Done, &left)?;
-            expect_row(&row, &last)
-        },
-    },
-    Run {
-        name: "order 2: refused calls are served too",
-        check: |desk| {
-            let mut row = opened_a(desk);
-            let replies = [
-                Reply::Refused(11),
-                Reply::Took(0),
-                Reply::Refused(11),
-                Reply::Refused(9),
-            ];
-            let all = events("B0 T0 T0 T65535");
-            expect_morning(desk, &mut row, &all, Reply::Done, &codes(&replies))?;
-            let (last, _) = run(desk, &task_a(), "T0");
-            expect_row(&row, &last)
-        },
-    },
-    Run {
-        name: "order 2: no events",
-        check: |desk| expect_untouched(desk, opened_a(desk), &[], 0, Reply::Done),
-    },
-    Run {
-        name: "order 2: 16, then 18, then 8 for a row that is no machine",
-        check: |desk| {
-            let (good, bad) = (events("T0 B0"), [0, 131_072]);
-            let no_machine = || vec![LENT as u32; ROW - 1];
-            for row in [opened_a(desk), no_machine()] {
-                expect_untouched(desk, row.clone(), &good, 1, Reply::Refused(16))?;
-                expect_untouched(desk, row.clone(), &bad, 1, Reply::Refused(16))?;
-                expect_untouched(desk, row.clone(), &bad, 2, Reply::Refused(18))?;
-                expect_untouched(desk, row, &[u32::MAX], 2, Reply::Refused(18))?;
-            }
-            expect_untouched(desk, no_machine(), &good, 2, Reply::Refused(8))?;
-            expect_untouched(desk, no_machine(), &[], 2, Reply::Refused(8))
-        },
-    },
-    Run {
-        name: "order 2: a machine that doesn't fit gives 8 in every place",
-        check: |desk| {
-            let mut row = opened_a(desk);
-            row[PHASE] = 3;
-            let before = row.clone();
-            let left = [codes(&[Reply::Refused(8); 2]), vec![LENT]].concat();
-            expect_morning(desk, &mut row, &events("T0 B7"), Reply::Done, &left)?;
-            expect_row(&row, &before)
-        },
-    },
 ];
-
-/// What stands in the places of a row that is lent for replies.
-const LENT: u64 = 9;
 
 pub fn task_a() -> Task {
     Task {
@@ -303,24 +236,8 @@ fn run(desk: &dyn RowDesk, task: &Task, text: &str) -> (Vec<u32>, Vec<u64>) {
     (row, codes)
 }
 
-/// Task A's machine as a desk opens it.
-fn opened_a(desk: &dyn RowDesk) -> Vec<u32> {
-    let mut row = vec![1; ROW];
-    desk.open(&task_a(), &mut row);
-    row
-}
-
 fn codes(replies: &[Reply]) -> Vec<u64> {
     replies.iter().map(|&reply| rows::code(reply)).collect()
-}
-
-/// Calls by number, as a morning takes them.
-fn events(text: &str) -> Vec<u32> {
-    let events = calls(text).map(|(action, worker)| Event {
-        action,
-        worker: worker as u16,
-    });
-    events.map(Event::number).collect()
 }
 
 /// The last replies are those named; no call made no reply.
@@ -335,45 +252,6 @@ fn expect_end(desk: &dyn RowDesk, task: &Task, text: &str, last: &[Reply]) -> Re
 fn shown(codes: &[u64]) -> String {
     let words: Vec<_> = codes.iter().map(|&code| Shown(code).to_string()).collect();
     words.join(", ")
-}
-
-/// A morning of task A, lent as many places as are `left`.
-fn expect_morning(
-    desk: &dyn RowDesk,
-    row: &mut [u32],
-    events: &[u32],
-    reply: Reply,
-    left: &[u64],
-) -> Result<(), String> {
-    let mut replies = vec![LENT; left.len()];
-    let code = desk.morning(row, task_a().graph(), events, &mut replies);
-    match code == rows::code(reply) && replies == left {
-        true => Ok(()),
-        false => Err(format!("gives {}, {}", Shown(code), shown(&replies))),
-    }
-}
-
-/// A morning of task A that writes nothing.
-fn expect_untouched(
-    desk: &dyn RowDesk,
-    row: Vec<u32>,
-    events: &[u32],
-    places: usize,
-    reply: Reply,
-) -> Result<(), String> {
-    let mut after = row.clone();
-    expect_morning(desk, &mut after, events, reply, &vec![LENT; places])?;
-    expect_row(&after, &row)
-}
-
-fn expect_row(row: &[u32], wanted: &[u32]) -> Result<(), String> {
-    let mut pairs = row.iter().zip(wanted).enumerate();
-    match pairs.find(|(_, (number, wanted))| number != wanted) {
-        Some((place, (number, wanted))) => {
-            Err(format!("leaves {number} in place {place}, not {wanted}"))
-        }
-        None => Ok(()),
-    }
 }
 
 fn expect_opening(desk: &dyn RowDesk, task: &Task, reply: Reply) -> Result<(), String> {

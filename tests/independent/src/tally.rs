@@ -42,6 +42,19 @@ impl Tally {
         self.add("print", kind, number.unwrap_or(0));
     }
 
+    /// Counts a map that was read, or refused with a number.
+    pub fn add_map(&mut self, refusal: Option<u32>) {
+        match refusal {
+            Some(number) => self.add("map", "refused", number),
+            None => self.add("map", "read", 0),
+        }
+    }
+
+    /// Counts a question about a map's cells that has an answer or none.
+    pub fn add_answer(&mut self, call: &'static str, has_answer: bool) {
+        self.add(call, if has_answer { "given" } else { "none" }, 0);
+    }
+
     /// How often a call gave this.
     pub fn count(&self, call: &'static str, word: &'static str, number: u32) -> u64 {
         let count = self.counts.get(&(call, word, number));

@@ -15,6 +15,7 @@ use crate::runs::{self, task_a};
 use crate::tally::Tally;
 use crate::taskfile::{self, Fault, MAX_FILE};
 
+mod map;
 mod morning;
 
 type Change = fn(&mut Machine);
@@ -582,17 +583,25 @@ fn wrong_waits_are_caught() {
 }
 
 /// A stand-in for a library: the independent desk with something wrong in what a
-/// call hands back. The last number that each change is given is the reply.
+/// call hands back. The last number that each change is given is what the call
+/// returns.
 struct Wrong {
     take: fn(&mut [u32], u64) -> u64,
     /// With the machine's row, the events and the row of replies.
     morning: fn(&mut [u32], &[u32], &mut [u64], u64) -> u64,
+    /// With the slices of passages and estimates.
+    map: fn(&mut [u32], &mut [u32], u64) -> u64,
+    map_spot: fn(u32) -> u32,
+    map_state: fn(u32) -> u32,
 }
 
 /// A stand-in with nothing wrong, to be changed.
 const RIGHT: Wrong = Wrong {
     take: |_, reply| reply,
     morning: |_, _, _, reply| reply,
+    map: |_, _, counts| counts,
+    map_spot: |spot| spot,
+    map_state: |state| state,
 };
 
 impl RowDesk for Wrong {
@@ -612,6 +621,16 @@ impl RowDesk for Wrong {
     fn morning(&self, row: &mut [u32], graph: Graph, events: &[u32], replies: &mut [u64]) -> u64 {
         let reply = Independent.morning(row, graph, events, replies);
         (self.morning)(row, events, replies, reply)
+    }
+    fn map(&self, text: &[u8], passages: &mut [u32], estimates: &mut [u32]) -> u64 {
+        let counts = Independent.map(text, passages, estimates);
+        (self.map)(passages, estimates, counts)
+    }
+    fn map_spot(&self, text: &[u8], state: usize) -> u32 {
+        (self.map_spot)(Independent.map_spot(text, state))
+    }
+    fn map_state(&self, text: &[u8], row: usize, column: usize) -> u32 {
+        (self.map_state)(Independent.map_state(text, row, column))
     }
     fn print(&self, file: &[u8], out: &mut [u8]) -> usize {
         Independent.print(file, out)
@@ -667,6 +686,9 @@ fn cases_meet_everything() {
         ("path", &["read"]),
         ("morning", &["done"]),
         ("event", &["took", "brought", "found", "nopath", "wait"]),
+        ("map", &["read"]),
+        ("map_spot", &["given", "none"]),
+        ("map_state", &["given", "none"]),
         ("print", &["run", "nothing"]),
     ] {
         words.iter().for_each(|word| met(call, word, &[0]));
@@ -677,6 +699,7 @@ fn cases_meet_everything() {
     met("path", "refused", &[8, 13, 14, 15]);
     met("morning", "refused", &[8, 16, 18]);
     met("event", "refused", &[8, 9, 10, 11]);
+    met("map", "refused", &[31, 32, 33, 34]);
     met("print", "file", &[21, 22, 23]);
     met("print", "opening", &[1, 2, 3]);
 }

@@ -129,6 +129,14 @@ const WORKLOADS: &[Workload] = &[
         set_up: || print(ended_file()),
     },
     Workload {
+        name: "map of 16 x 16, all open",
+        set_up: || map(16, 16),
+    },
+    Workload {
+        name: "map of 256 x 256, 256 cells open",
+        set_up: || map(256, 256),
+    },
+    Workload {
         name: "morning of 7000, all calls run",
         set_up: || morning(&searching_task(), searching_call),
     },
@@ -215,6 +223,20 @@ fn whole_run(n: usize, passages: usize, k: usize) -> Go {
 fn print(file: Vec<u8>) -> Go {
     let out = RefCell::new(vec![0; PRINT_ROOM]);
     Box::new(move |desk| desk.print(black_box(&file), &mut out.borrow_mut()) as u64)
+}
+
+/// A map with an open room of 16 x 16 in the left upper corner, read.
+fn map(height: usize, width: usize) -> Go {
+    let mut text = format!("type octile\nheight {height}\nwidth {width}\nmap\n");
+    for row in 0..height {
+        let open = if row < 16 { 16 } else { 0 };
+        text += &format!("{}{}\n", ".".repeat(open), "@".repeat(width - open));
+    }
+    let lent = RefCell::new((vec![0; 3 * 2048], vec![0; 65_536]));
+    Box::new(move |desk| {
+        let (passages, estimates) = &mut *lent.borrow_mut();
+        desk.map(black_box(text.as_bytes()), passages, estimates)
+    })
 }
 
 /// A morning on the opened machine; gives its last event's reply.

@@ -1,11 +1,12 @@
 //! Random mornings: lists of events by number, and rows for their replies.
 
-use super::{calls_on, Rng};
+use super::{calls_on, lent_len, Rng};
 use crate::desk::Graph;
 use crate::morning::Event;
 
 /// A morning for the machine in a row, which may also hold none: events by
-/// number, good ones chosen as single calls are, and a row for their replies.
+/// number, good ones chosen as single calls are, and a row for their replies with
+/// something in each place.
 pub fn morning(rng: &mut Rng, row: &[u32], graph: Graph) -> (Vec<u32>, Vec<u64>) {
     let count = match rng.below(400) {
         0 => 7000,
@@ -22,7 +23,8 @@ pub fn morning(rng: &mut Rng, row: &[u32], graph: Graph) -> (Vec<u32>, Vec<u64>)
     if rng.percent(10) {
         damage_events(rng, &mut events);
     }
-    let replies = replies(rng, events.len());
+    let places = lent_len(rng, events.len());
+    let replies = (0..places).map(|_| rng.next()).collect();
     (events, replies)
 }
 
@@ -36,15 +38,4 @@ fn damage_events(rng: &mut Rng, events: &mut Vec<u32>) {
             _ => events.push(bad),
         }
     }
-}
-
-/// A row with something in each place: too short, just long enough, or longer.
-fn replies(rng: &mut Rng, count: usize) -> Vec<u64> {
-    let len = match rng.below(12) {
-        0 => count.saturating_sub(1),
-        1 => rng.between(0, count),
-        2..=6 => count,
-        _ => count + rng.between(1, 9),
-    };
-    (0..len).map(|_| rng.next()).collect()
 }
