@@ -9,6 +9,7 @@
  *     [775 .. 806]  for each worker the state that it holds; 65535: nothing
  *
  * Passages are three numbers each (from, to, cost); estimates are n x n numbers, h(a,b) at a * n + b.
+ * Cost 4294967295 (DESK_BLOCKED) marks a blocked passage, which keeps its number but is no part of any route.
  * A slice is a pointer and a count of elements; slices of one call must not overlap where one of them is written.
  *
  * Every call on a machine returns a reply: its case times 2^32, plus the number that it carries.
@@ -27,6 +28,7 @@ extern "C" {
 #endif
 
 #define DESK_ROW 807
+#define DESK_BLOCKED 4294967295u
 
 enum {
     DESK_OPENED = 0,  /* opening accepted the task */

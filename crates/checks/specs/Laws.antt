@@ -1,6 +1,6 @@
 -- What a task, a passage slice, a table or a machine's rows have once they passed the checks, as facts for the callers.
 use mathlib.Core.Path.{_≡_, refl, _∙_}
-use mathlib.Core.Bool.{Bool, true, false, _&&_}
+use mathlib.Core.Bool.{Bool, true, false, _&&_, _||_, not}
 use mathlib.Core.List.{List}
 use mathlib.Core.Logic.{⊎-elim}
 use Prim.Native.Nat.{ℕ, _*_, _%_, _≤_, _<_}
@@ -11,7 +11,7 @@ use lib.Dec.{ltb, leb, eqb}
 use borrow.Author.Tests.{ltb-true, leb-true, eqb-true}
 use Rattle.laws.specs.Truth.{and-left, and-right, or-either, provided, provided-kept}
 use Rattle.laws.specs.All.{all, all-at, all-stop}
-use Rattle.rule.specs.Task.{passageCount, near, far, cost, estimate, Whole}
+use Rattle.rule.specs.Task.{passageCount, near, far, cost, isClear, estimate, Whole}
 use Rattle.rule.specs.Marks.{isOut, none}
 use Rattle.checks.specs.Opening.{Task, sizesRight, endsRight, weightsRight, passageRight, passagesRight, rowRight, estimatesRight, earlyFault, fault, holds1, holds2, holds3, holds4, holds5, holds6, holds7}
 use Rattle.checks.specs.Fits.{workerRight, labelsRight, workersRight}
@@ -111,7 +111,7 @@ module _ (passages : List ℕ) (n : ℕ) (e : passagesRight passages n ≡ true)
   passage-at = all-at (passageRight passages n) (passageCount passages) i e l
 
   ends-at : (ltb (near passages i) n && ltb (far passages i) n) ≡ true
-  ends-at = and-left _ (leb (cost passages i) 1000000) passage-at
+  ends-at = and-left _ (not (isClear passages i) || leb (cost passages i) 1000000) passage-at
 
   pub near-in : near passages i < n
   near-in = ltb-true _ _ (and-left _ (ltb (far passages i) n) ends-at)
@@ -119,8 +119,8 @@ module _ (passages : List ℕ) (n : ℕ) (e : passagesRight passages n ≡ true)
   pub far-in : far passages i < n
   far-in = ltb-true _ _ (and-right (ltb (near passages i) n) _ ends-at)
 
-  pub cost-in : cost passages i ≤ 1000000
-  cost-in = leb-true _ _ (and-right (ltb (near passages i) n && ltb (far passages i) n) _ passage-at)
+  pub cost-in : isClear passages i ≡ true → cost passages i ≤ 1000000
+  cost-in k = leb-true _ _ (rw k at (and-right (ltb (near passages i) n && ltb (far passages i) n) (not (isClear passages i) || leb (cost passages i) 1000000) passage-at))
 
 -- an estimate that is too large settles its row
 pub row-stop : (estimates : List ℕ) (n a b : ℕ) → leb (estimate estimates n a b) 255000000 ≡ false → b < n → false ≡ rowRight estimates n a

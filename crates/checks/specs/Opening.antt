@@ -1,12 +1,12 @@
 -- The refusals of opening, 1 to 7: what a task must be. Each condition here is the one that the refusal of its number finds broken.
-use mathlib.Core.Bool.{Bool, _&&_}
+use mathlib.Core.Bool.{Bool, _&&_, _||_, not}
 use mathlib.Core.List.{List}
 use Prim.Native.Nat.{ℕ, _+_, _*_, _%_}
 use lib.ListN.{length}
 use lib.Dec.{ltb, leb, eqb}
 use Rattle.laws.specs.Truth.{provided}
 use Rattle.laws.specs.All.{all}
-use Rattle.rule.specs.Task.{passageCount, near, far, cost, estimate}
+use Rattle.rule.specs.Task.{passageCount, near, far, cost, isClear, estimate}
 
 -- what a task is made of
 pub record Task : Type 0 where
@@ -35,9 +35,9 @@ endsRight n start goal = ltb start n && ltb goal n
 unfoldable pub weightsRight : ℕ → ℕ → Bool
 weightsRight pull excess = (leb 100 excess && leb excess 10000) && leb pull excess
 
--- 4 "a passage end not below n, or a cost over 1,000,000"
+-- 4 "a passage end not below n, or a cost over 1,000,000"; order 4: "for costs above 1,000,000 other than this one", a blocked passage's
 abbrev pub passageRight : List ℕ → ℕ → ℕ → Bool
-passageRight passages n i = (ltb (near passages i) n && ltb (far passages i) n) && leb (cost passages i) 1000000
+passageRight passages n i = (ltb (near passages i) n && ltb (far passages i) n) && (not (isClear passages i) || leb (cost passages i) 1000000)
 
 unfoldable pub passagesRight : List ℕ → ℕ → Bool
 passagesRight passages n = all (passageRight passages n) (passageCount passages)
@@ -49,9 +49,9 @@ rowRight estimates n a = all (λ b. leb (estimate estimates n a b) 255000000) n 
 unfoldable pub estimatesRight : List ℕ → ℕ → Bool
 estimatesRight estimates n = all (rowRight estimates n) n
 
--- 6 "a passage a to b with h(a,b) above its cost"
+-- 6 "a passage a to b with h(a,b) above its cost"; order 4: a blocked passage "is left out of check 6"
 abbrev pub passageBounds : List ℕ → List ℕ → ℕ → ℕ → Bool
-passageBounds passages estimates n i = leb (estimate estimates n (near passages i) (far passages i)) (cost passages i)
+passageBounds passages estimates n i = not (isClear passages i) || leb (estimate estimates n (near passages i) (far passages i)) (cost passages i)
 
 unfoldable pub passagesBound : List ℕ → List ℕ → ℕ → Bool
 passagesBound passages estimates n = all (passageBounds passages estimates n) (passageCount passages)

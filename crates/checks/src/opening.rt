@@ -67,7 +67,7 @@ pub fn weights_right(pull: u16, excess: u16) -> bool
     pull <= excess
 }
 
-// 4: both ends of each passage are states, and no cost is too high.
+// 4: both ends of each passage are states, and no cost is too high, but for a blocked passage's.
 pub fn passages_right(passages: &[u32], n: usize) -> bool
     ensures { λ r. ⌜ r ≡ passagesRight (now (passages .entry)) n ⌝ }
 {
@@ -79,8 +79,10 @@ pub fn passages_right(passages: &[u32], n: usize) -> bool
         if rule::far(passages, i) >= n {
             return false;
         }
-        if rule::cost(passages, i) > 1000000 {
-            return false;
+        if rule::is_clear(passages, i) {
+            if rule::cost(passages, i) > 1000000 {
+                return false;
+            }
         }
     }
     true
@@ -112,17 +114,20 @@ pub fn estimates_right(estimates: &[u32], n: usize) -> bool
     true
 }
 
-// 6: no estimate is above the cost of a passage.
+// 6: no estimate is above the cost of a passage that isn't blocked.
 pub fn passages_bound(passages: &[u32], estimates: &[u32], n: usize) -> bool
     requires { ⌜ Whole (now estimates) n × (passagesRight (now passages) n ≡ true) ⌝ }
     ensures { λ r. ⌜ r ≡ passagesBound (now (passages .entry)) (now (estimates .entry)) n ⌝ }
 {
     let count = passages.len() / 3;
     for i in 0..count {
-        let a = rule::near(passages, i);
-        let b = rule::far(passages, i);
-        if rule::estimate(estimates, n, a, b) > rule::cost(passages, i) {
-            return false;
+        let clear = rule::is_clear(passages, i);
+        if clear {
+            let a = rule::near(passages, i);
+            let b = rule::far(passages, i);
+            if rule::estimate(estimates, n, a, b) > rule::cost(passages, i) {
+                return false;
+            }
         }
     }
     true

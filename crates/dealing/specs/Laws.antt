@@ -78,7 +78,11 @@ module _ (goal pull : ℕ) (b : Board) where
   unfolding choice
   choice-in = least-below (safe b) (key goal pull b) (b .n) (b .n) (omega arith)
 
-  choice-none : b .n ≤ choice goal pull b → (s : ℕ) → s < b .n → safe b s ≡ false
+  pub choice-safe : choice goal pull b < b .n → safe b (choice goal pull b) ≡ true
+  unfolding choice
+  choice-safe l = least-passes (safe b) (key goal pull b) (b .n) (b .n) (λ e. omega arith)
+
+  pub choice-none : b .n ≤ choice goal pull b → (s : ℕ) → s < b .n → safe b s ≡ false
   unfolding choice
   choice-none = least-nothing (safe b) (key goal pull b) (b .n) (b .n) (omega arith)
 
@@ -99,7 +103,7 @@ module _ (goal pull : ℕ) (b : Board) where
   foremost-none l = any-not _ (b .n) (least-nothing _ (key goal pull b) (b .n) (b .n) (omega arith) l)
 
   -- where nothing is safe, its test stops at a state
-  foremost-held : (foremost goal pull b ≡ b .n → ⊥) → ((s : ℕ) → s < b .n → safe b s ≡ false) → firstDependence b (foremost goal pull b) < b .n
+  pub foremost-held : (foremost goal pull b ≡ b .n → ⊥) → ((s : ℕ) → s < b .n → safe b s ≡ false) → firstDependence b (foremost goal pull b) < b .n
   unfolding firstDependence
   foremost-held z f =
       ⊎-elim (λ q. absurd (true≢false (sym (safe-open b (foremost goal pull b) (foremost-open z) q) ∙ f (foremost goal pull b) (foremost-in z)))) (λ l. l)

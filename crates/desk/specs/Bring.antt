@@ -1,11 +1,11 @@
 -- "Bring(worker)": the held state's passages in slice order, and the refusals 8 to 11 before them.
-use mathlib.Core.Bool.{not, cond}
+use mathlib.Core.Bool.{_&&_, not, cond}
 use mathlib.Core.List.{List}
 use Prim.Native.Nat.{ℕ, _+_}
 use lib.ListN.{getD}
 use lib.Dec.{eqb}
 use Rattle.laws.specs.Fold.{fold}
-use Rattle.rule.specs.Task.{passageCount, near, far, cost}
+use Rattle.rule.specs.Task.{passageCount, near, far, cost, isClear}
 use Rattle.rule.specs.Marks.{waiting, finished, none}
 use Rattle.rule.specs.Rule.{lowers}
 use Rattle.desk.specs.declared.Machine.{Machine}
@@ -28,9 +28,9 @@ labelled m s sum i = withVia (withLabel (withMark m s waiting) s sum) s i
 abbrev pub reach : ℕ → ℕ → ℕ → Swept → Swept
 reach s sum i w = cond (lowers (getD (w .machine .mark) s 0) (labelOf (w .machine) s) sum) (swept (labelled (w .machine) s sum i) (w .many + 1)) w
 
--- passage i, where it is one of the held state's
+-- passage i, where it is one of the held state's; order 4: a blocked passage "sets no label"
 unfoldable pub applyPassage : List ℕ → ℕ → ℕ → ℕ → Swept → Swept
-applyPassage passages state label i w = cond (eqb (near passages i) state) (reach (far passages i) (label + cost passages i) i w) w
+applyPassage passages state label i w = cond (eqb (near passages i) state && isClear passages i) (reach (far passages i) (label + cost passages i) i w) w
 
 -- "goes through the held state's passages in slice order"
 unfoldable pub sweepOf : Machine → List ℕ → ℕ → Swept

@@ -11,7 +11,7 @@ use borrow.Rule.Slice.PartMut.{midOf, putMid}
 use Rattle.laws.specs.Truth.{and-left, and-right, provided}
 use Rattle.laws.specs.Fold.{fold, fold-zero, fold-more}
 use Rattle.laws.specs.Part.{overlaid, put-overlaid}
-use Rattle.rule.specs.Task.{passageCount, near, far, cost}
+use Rattle.rule.specs.Task.{passageCount, near, far, cost, isClear}
 use Rattle.rule.specs.Marks.{none}
 use Rattle.rule.specs.Rule.{lowers}
 use Rattle.checks.specs.Opening.{Task, earlyFault, fault}
@@ -121,13 +121,13 @@ placed goal pull b l = go (decision goal pull b) (λ s e. omega (arith, deal-in 
     go Stuck f g = tt
     go (Wait s) f g = g s refl
 
--- the state s can be brought: far ends have places in the rows, and label + cost fits 32 bits
+-- the state s can be brought: far ends have places in the rows, and label + cost of a passage that isn't blocked fits 32 bits
 pub record Carried (m : Machine) (passages : List ℕ) (s : ℕ) : Type 0 where
   pub few : length passages ≤ 12288
   pub state : s < 256
   pub low : labelOf m s ≤ 255000000
   pub fars : (i : ℕ) → i < passageCount passages → far passages i < 256
-  pub costs : (i : ℕ) → i < passageCount passages → cost passages i ≤ 1000000
+  pub costs : (i : ℕ) → i < passageCount passages → isClear passages i ≡ true → cost passages i ≤ 1000000
 
 pub carried : (m : Machine) (passages estimates : List ℕ) (worker : ℕ) → Fitting m passages estimates → worker < m .k → (heldBy m worker ≡ none → ⊥) → Carried m passages (heldBy m worker)
 carried m passages estimates worker f l h =
@@ -137,7 +137,7 @@ carried m passages estimates worker f l h =
       state = omega (arith, s .0, f .task .states);
       low = label-low (m .label) (m .n) (f .labels) (heldBy m worker) (s .0);
       fars = λ i q. omega (arith, far-in passages (m .n) (f .task .listed) i q, f .task .states);
-      costs = λ i q. cost-in passages (m .n) (f .task .listed) i q;
+      costs = λ i q k. cost-in passages (m .n) (f .task .listed) i q k;
     }
 
 -- the passages of a machine that fits come from places of the rows
@@ -170,15 +170,20 @@ module _ (m₀ m : Machine) (passages : List ℕ) (s many i : ℕ) (r : Run m₀
   unfolding applyPassage
   run-skip n = more m many (omega arith) (rw (ne-eqb (near passages i) s n))
 
-  -- the passage is the held state's: its far end keeps its label, or gets the sum
-  module _ (e : near passages i ≡ s) (end sum : ℕ) (et : end ≡ far passages i) (es : sum ≡ labelOf m₀ s + cost passages i) where
-    pub run-kept : lowers (getD (m .mark) end 0) (labelOf m end) sum ≡ false → Run m₀ m passages s many (i + 1)
+  -- the passage is the held state's: it is blocked, or else its far end keeps its label, or gets the sum
+  module _ (e : near passages i ≡ s) where
+    pub run-blocked : isClear passages i ≡ false → Run m₀ m passages s many (i + 1)
     unfolding applyPassage
-    run-kept h = more m many (omega arith) (rw (eq-eqb (near passages i) s e, ← et, ← es, h))
+    run-blocked k = more m many (omega arith) (rw (eq-eqb (near passages i) s e, k))
 
-    pub run-set : lowers (getD (m .mark) end 0) (labelOf m end) sum ≡ true → Run m₀ (labelled m end sum i) passages s (many + 1) (i + 1)
-    unfolding applyPassage
-    run-set h = more (labelled m end sum i) (many + 1) (omega arith) (rw (eq-eqb (near passages i) s e, ← et, ← es, h))
+    module _ (k : isClear passages i ≡ true) (end sum : ℕ) (et : end ≡ far passages i) (es : sum ≡ labelOf m₀ s + cost passages i) where
+      pub run-kept : lowers (getD (m .mark) end 0) (labelOf m end) sum ≡ false → Run m₀ m passages s many (i + 1)
+      unfolding applyPassage
+      run-kept h = more m many (omega arith) (rw (eq-eqb (near passages i) s e, k, ← et, ← es, h))
+
+      pub run-set : lowers (getD (m .mark) end 0) (labelOf m end) sum ≡ true → Run m₀ (labelled m end sum i) passages s (many + 1) (i + 1)
+      unfolding applyPassage
+      run-set h = more (labelled m end sum i) (many + 1) (omega arith) (rw (eq-eqb (near passages i) s e, k, ← et, ← es, h))
 
 -- path reading, by what it finds
 module _ (m : Machine) (passages estimates buffer : List ℕ) (at : ℕ) where

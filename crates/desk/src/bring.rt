@@ -10,7 +10,7 @@ use super::Reply;
 use super::Swept;
 use super::fits;
 
-// The passages of the state s in slice order. Each far end that is unseen, or open with a greater label, gets its label by way of s.
+// The passages of the state s in slice order, but for blocked ones. Each far end that is unseen, or open with a greater label, gets its label by way of s.
 pub fn sweep(machine: Machine, passages: &[u32], s: usize) -> Swept
     requires { ⌜ Carried machine (now passages) s ⌝ }
     ensures { λ r. ⌜ r ≡ sweepOf machine (now (passages .entry)) s ⌝ }
@@ -21,13 +21,16 @@ pub fn sweep(machine: Machine, passages: &[u32], s: usize) -> Swept
     let mut many: u32 = 0;
     for i in 0..count {
         if rule::near(passages, i) == s {
-            let far = rule::far(passages, i);
-            let sum = label + rule::cost(passages, i);
-            if rule::lowers(m.mark[far], m.label[far], sum) {
-                m.mark[far] = rule::OPEN;
-                m.label[far] = sum;
-                m.via[far] = i as u16;
-                many += 1;
+            // A blocked passage's cost is never added: the sum would not fit.
+            if rule::is_clear(passages, i) {
+                let far = rule::far(passages, i);
+                let sum = label + rule::cost(passages, i);
+                if rule::lowers(m.mark[far], m.label[far], sum) {
+                    m.mark[far] = rule::OPEN;
+                    m.label[far] = sum;
+                    m.via[far] = i as u16;
+                    many += 1;
+                }
             }
         }
     }

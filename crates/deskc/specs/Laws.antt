@@ -3,7 +3,6 @@ use mathlib.Core.Path.{_≡_, refl, sym, ap, _∙_}
 use mathlib.Core.Bool.{Bool, true, false}
 use mathlib.Core.List.{List, [], _∷_, _++_, append-nil, append-assoc}
 use Prim.Native.Nat.{ℕ, _+_, _≤_, _<_}
-use native.Mathlib.Nat.{zero-add}
 use native.Mathlib.Omega.{arith}
 use lib.ListN.{length, getD, set, take, drop, length-append, length-take, length-drop, drop-of-length-le, take-append-drop}
 use lib.Seq.{ext-getD, getD-take, getD-drop, drop-drop, set-getD}
@@ -12,7 +11,7 @@ use borrow.Author.Tests.{eqb-true, leb-true}
 use Rattle.laws.specs.Truth.{and-left, and-right}
 use Rattle.laws.specs.All.{all-at}
 use Rattle.laws.specs.Part.{overlaid}
-use Rattle.laws.specs.Fill.{made, made-length, made-at, Filled, filled-more, filled-end, overlaid-one, overlaid-next}
+use Rattle.laws.specs.Fill.{made, made-length, made-at, Filled, filled-end, overlaid-one, overlaid-next}
 use Rattle.checks.specs.Opening.{Task, fault}
 use Rattle.checks.specs.Laws.{right, fault-none}
 use Rattle.desk.specs.declared.Machine.{Machine}
@@ -27,10 +26,7 @@ made-places l d n e = ext-getD d (made (λ i. getD l i d) n) l (made-length (λ 
 pub overlaid-whole : {X : Type 0} (xs l : List X) → length xs ≡ length l → overlaid 0 xs l ≡ xs
 overlaid-whole xs l e = rw (drop-of-length-le l {i = 0 + length xs} (omega arith), append-nil)
 
--- a loop that fills from the front, of one place more, and at the end of a list that it filled whole
-pub filled-front : {X : Type 0} (f : ℕ → X) (l₀ l : List X) (i : ℕ) → Filled f 0 l₀ l i → i < length l₀ → (v : X) → v ≡ f i → Filled f 0 l₀ (set l i v) (i + 1)
-filled-front f l₀ l i w h v e = rw zero-add at (filled-more f 0 l₀ l i w (omega arith) v e)
-
+-- a loop that fills from the front, at the end of a list that it filled whole
 pub filled-whole : {X : Type 0} (f : ℕ → X) (n : ℕ) (l₀ l : List X) (i : ℕ) → Filled f 0 l₀ l i → length l₀ ≡ n → i ≤ n → n ≤ i → l ≡ made f n
 filled-whole f n l₀ l i w e a b = filled-end f 0 n l₀ l i w a b ∙ overlaid-whole (made f n) l₀ (made-length f n ∙ sym e)
 

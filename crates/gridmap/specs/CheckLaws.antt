@@ -1,13 +1,13 @@
 -- Opening's checks 4 to 7 of a map's passages and estimates: each passes.
 use mathlib.Core.Path.{_≡_}
-use mathlib.Core.Bool.{true}
+use mathlib.Core.Bool.{true, not}
 use Prim.Native.Nat.{ℕ, _+_, _≤_, _<_}
 use native.Mathlib.Omega.{arith}
 use lib.Dec.{leb}
 use borrow.Author.Tests.{le-leb, lt-ltb}
-use Rattle.laws.specs.Truth.{and-both}
+use Rattle.laws.specs.Truth.{and-both, or-second}
 use Rattle.laws.specs.All.{all-of}
-use Rattle.rule.specs.Task.{estimate}
+use Rattle.rule.specs.Task.{isClear, estimate}
 use Rattle.checks.specs.Opening.{passageRight, passagesRight, rowRight, estimatesRight, passageBounds, passagesBound, detourBounds, detoursBy, detoursFrom, detoursBound}
 use Rattle.gridmap.specs.Map.{Map, stride, cellOf, stateCount}
 use Rattle.gridmap.specs.Passages.{costTo, stateAt, headingAt, leadsTo, passagesOf}
@@ -22,7 +22,7 @@ module _ (m : Map) where
   right-four = listed-all m (passageRight (passagesOf m) (stateCount m)) (λ i j f.
       rw (f .near-is, f .far-is, f .cost-is)
       (and-both (and-both (lt-ltb (stateAt j) (stateCount m) (from-in m j (f .inside))) (lt-ltb (leadsTo m j) (stateCount m) (to-in m j (f .passes))))
-      (le-leb (costTo (headingAt j)) 1000000 (omega (arith, cost-small (headingAt j))))))
+      (or-second (not (isClear (passagesOf m) i)) _ (le-leb (costTo (headingAt j)) 1000000 (omega (arith, cost-small (headingAt j)))))))
 
   pub right-five : m .height ≤ 256 → m .width ≤ 256 → estimatesRight (estimatesOf m) (stateCount m) ≡ true
   unfolding estimatesRight
@@ -40,7 +40,7 @@ module _ (m : Map) where
   unfolding passagesBound
   right-six = listed-all m (passageBounds (passagesOf m) (estimatesOf m) (stateCount m)) (λ i j f.
       rw (f .near-is, f .far-is, f .cost-is, estimate-is m (stateAt j) (leadsTo m j) (from-in m j (f .inside)) (to-in m j (f .passes)))
-      (le-leb (between (stride m) (cellOf m (stateAt j)) (cellOf m (leadsTo m j))) (costTo (headingAt j)) (passage-near m j (f .passes))))
+      (or-second (not (isClear (passagesOf m) i)) _ (le-leb (between (stride m) (cellOf m (stateAt j)) (cellOf m (leadsTo m j))) (costTo (headingAt j)) (passage-near m j (f .passes)))))
 
   pub right-seven : detoursBound (estimatesOf m) (stateCount m) ≡ true
   unfolding detoursBound detoursFrom detoursBy

@@ -3,7 +3,7 @@
 use mathlib.Core.Path.{_≡_, refl, sym, ap, _∙_}
 use mathlib.Core.List.{List, [], _∷_, _++_, append-assoc}
 use Prim.Native.Nat.{ℕ, zero, suc, _+_, _≤_, _<_}
-use native.Mathlib.Nat.{add-zero, add-assoc}
+use native.Mathlib.Nat.{add-zero, add-assoc, zero-add}
 use native.Mathlib.Decide.{ℕ-discrete}
 use native.Mathlib.Numerals.{add-one}
 use native.Mathlib.Omega.{arith}
@@ -86,6 +86,10 @@ filled-more {X} f at l₀ l i w h v e =
       done = overlaid-one (at + i) l v (omega (arith, w .long)) ∙ rw e (overlaid-next at (at + i) l₀ l (made f i) (f i ∷ []) (w .done) q (omega arith)) ∙ ap (λ (xs : List X). overlaid at xs l₀) (sym (made-more f i));
       long = length-set l (at + i) v ∙ w .long;
     }
+
+-- the same from the front on
+pub filled-front : {X : Type 0} (f : ℕ → X) (l₀ l : List X) (i : ℕ) → Filled f 0 l₀ l i → i < length l₀ → (v : X) → v ≡ f i → Filled f 0 l₀ (set l i v) (i + 1)
+filled-front f l₀ l i w h v e = rw zero-add at (filled-more f 0 l₀ l i w (omega arith) v e)
 
 pub filled-end : {X : Type 0} (f : ℕ → X) (at n : ℕ) (l₀ l : List X) (i : ℕ) → Filled f at l₀ l i → i ≤ n → n ≤ i → l ≡ overlaid at (made f n) l₀
 filled-end f at n l₀ l i w a b = let q : i ≡ n = omega arith in rw q at (w .done)

@@ -28,6 +28,10 @@ pub or-either : (a b : Bool) → (a || b) ≡ true → (a ≡ true) ⊎ (b ≡ t
 or-either true b e = inl refl
 or-either false b e = inr e
 
+pub or-second : (a b : Bool) → b ≡ true → (a || b) ≡ true
+or-second true b e = refl
+or-second false b e = e
+
 -- "The first that applies is given": what a call comes to, provided that a condition holds; else the refusal beside it.
 abbrev pub provided : {A : Type 0} → Bool → A → A → A
 provided true refusal call = call

@@ -1,11 +1,11 @@
 -- What a task that opening accepts has: none of 1 to 7 applies, so its numbers are in range, and its estimates agree with its passages (checks 4 to 7).
 use mathlib.Core.Path.{_≡_, refl, sym, _∙_}
 use mathlib.Core.Bool.{Bool, true, false, cond}
-use Prim.Native.Nat.{ℕ, _≤_, _<_}
+use Prim.Native.Nat.{ℕ, _≤_}
 use native.Mathlib.Omega.{arith}
 use lib.Dec.{leb, eqb}
 use borrow.Author.Tests.{eqb-true, leb-true, eq-eqb}
-use Rattle.laws.specs.Truth.{and-right, provided}
+use Rattle.laws.specs.Truth.{and-right, provided-kept}
 use Rattle.laws.specs.All.{all, all-at}
 use Rattle.rule.specs.Task.{passageCount, cost, estimate}
 use Rattle.argument.specs.View.{Consistent}
@@ -22,7 +22,7 @@ pub record Sound (t : Task) : Type 0 where
   pub early : earlyFault t ≡ 0
   pub right : Right t
   pub consistent : Consistent (graph t) (t .n) (t .excess) (estimate (t .estimates) (t .n))
-  pub costs : (i : ℕ) → i < passageCount (t .passages) → cost (t .passages) i ≤ 1000000
+  pub costs : (i : ℕ) → graph t .edge i → cost (t .passages) i ≤ 1000000
 
 pub accepted-fault : (t : Task) → Accepted t → fault t ≡ 0
 unfolding openingOf
@@ -36,17 +36,12 @@ pub accepted-machine : (t : Task) → Accepted t → openingOf t .machine ≡ op
 unfolding openingOf
 accepted-machine t a = rw (eq-eqb (fault t) 0 (accepted-fault t a))
 
--- a ladder that comes to 0 beside a refusal that isn't 0: its condition holds, and the rest comes to 0
-passed : (ok : Bool) (refusal call : ℕ) → (refusal ≡ 0 → ⊥) → provided ok refusal call ≡ 0 → (ok ≡ true) × (call ≡ 0)
-passed true refusal call n e = (refl, e)
-passed false refusal call n e = absurd (n e)
-
 module _ (t : Task) (e : fault t ≡ 0) where
   late : (holds5 t ≡ true) × ((holds6 t ≡ true) × (holds7 t ≡ true))
   late =
-      let five = passed (holds5 t) 5 _ (λ q. omega arith) (sym (fault-late t (fault-none t e)) ∙ e) in
-      let six = passed (holds6 t) 6 _ (λ q. omega arith) (five .1) in
-      let seven = passed (holds7 t) 7 0 (λ q. omega arith) (six .1) in
+      let five = provided-kept (holds5 t) 5 _ (λ q. omega arith) (sym (fault-late t (fault-none t e)) ∙ e) in
+      let six = provided-kept (holds6 t) 6 _ (λ q. omega arith) (five .1) in
+      let seven = provided-kept (holds7 t) 7 0 (λ q. omega arith) (six .1) in
       (five .0, (six .0, seven .0))
 
   numbers : Right t
@@ -55,9 +50,9 @@ module _ (t : Task) (e : fault t ≡ 0) where
   estimates-agree : Consistent (graph t) (t .n) (t .excess) (estimate (t .estimates) (t .n))
   unfolding estimatesRight passagesBound detoursBy detoursFrom detoursBound
   estimates-agree = record {
-    ends = λ i l. (near-in (t .passages) (t .n) (numbers .listed) i l, far-in (t .passages) (t .n) (numbers .listed) i l);
+    ends = λ i (l, _). (near-in (t .passages) (t .n) (numbers .listed) i l, far-in (t .passages) (t .n) (numbers .listed) i l);
     self = λ a l. eqb-true _ _ (and-right (all (λ b. leb (estimate (t .estimates) (t .n) a b) 255000000) (t .n)) _ (all-at (rowRight (t .estimates) (t .n)) (t .n) a (late .0) l));
-    edge = λ i l. leb-true _ _ (all-at (passageBounds (t .passages) (t .estimates) (t .n)) (passageCount (t .passages)) i (late .1 .0) l);
+    edge = λ i (l, k). leb-true _ _ (rw k at (all-at (passageBounds (t .passages) (t .estimates) (t .n)) (passageCount (t .passages)) i (late .1 .0) l));
     triangle = λ a b c x y z. leb-true _ _ (all-at (detourBounds (t .estimates) (t .n) a b) (t .n) c
         (all-at (detoursBy (t .estimates) (t .n) a) (t .n) b (all-at (detoursFrom (t .estimates) (t .n)) (t .n) a (late .1 .1) x) y) z);
     hundred = numbers .least;
@@ -68,5 +63,5 @@ module _ (t : Task) (e : fault t ≡ 0) where
     early = fault-none t e;
     right = numbers;
     consistent = estimates-agree;
-    costs = λ i l. cost-in (t .passages) (t .n) (numbers .listed) i l;
+    costs = λ i (l, k). cost-in (t .passages) (t .n) (numbers .listed) i l k;
   }

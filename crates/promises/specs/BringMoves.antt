@@ -2,7 +2,7 @@
 -- At the end the held state is finished.
 use mathlib.Core.Path.{_≡_, refl, sym, subst, ap, fun-ext, _∙_}
 use mathlib.Core.Logic.{inl, inr, _≢_}
-use mathlib.Core.Bool.{Bool, true, false, _&&_, _||_, cond}
+use mathlib.Core.Bool.{Bool, true, false, _&&_, _||_, cond, true≢false}
 use mathlib.Core.List.{List}
 use Prim.Native.Nat.{ℕ, zero, suc, _+_, _*_, _≤_, _<_}
 use native.Mathlib.Nat.{mul-le-mul-right}
@@ -13,7 +13,7 @@ use lib.Seq.{getD-set-same, getD-set-other}
 use lib.Dec.{ltb, eqb}
 use borrow.Author.Tests.{ltb-true, ltb-false, eqb-true, eqb-false}
 use Rattle.laws.specs.Fold.{fold}
-use Rattle.rule.specs.Task.{passageCount, near, far, cost}
+use Rattle.rule.specs.Task.{passageCount, near, far, cost, isClear}
 use Rattle.rule.specs.Marks.{waiting, finished, none}
 use Rattle.rule.specs.Rule.{lowers}
 use Rattle.argument.specs.Front.{Reached}
@@ -48,6 +48,10 @@ lowers-no mark label sum = go (eqb mark 0) refl (eqb mark 1) refl (ltb sum label
     go false p true q true r e = let z : _≡_ {A = ℕ} 0 1 = cc in absurd (omega arith)
     go false p false q true r e = let z = eqb-false mark 0 p in let o = eqb-false mark 1 q in (omega (arith, z), λ l. absurd (omega (arith, z, o)))
 
+-- passage i is one, and it isn't blocked
+abbrev pub Counts : List ℕ → ℕ → Type 0
+Counts passages i = (i < passageCount passages) × (isClear passages i ≡ true)
+
 -- the machine after passage i has given its far end a label
 abbrev pub lowered : List ℕ → ℕ → ℕ → Machine → Machine
 lowered passages l i m = labelled m (far passages i) (l + cost passages i) i
@@ -63,9 +67,9 @@ pub record Passing (passages estimates : List ℕ) (p l i : ℕ) (m : Machine) :
   pub label : labelOf m p ≡ l
 
 module _ {passages estimates : List ℕ} {p l i : ℕ} {m : Machine} (z : Passing passages estimates p l i m) where
-  -- passage i of p has reached its far end, where it is one of p's
+  -- passage i of p has reached its far end, where it counts and is one of p's
   abbrev Arrived : Type 0
-  Arrived = i < passageCount passages → near passages i ≡ p → Reached (m .excess) (graph (taskOf m passages estimates)) (during passages p i m) p i
+  Arrived = Counts passages i → near passages i ≡ p → Reached (m .excess) (graph (taskOf m passages estimates)) (during passages p i m) p i
 
   -- then the place of p goes on, and nothing else changes
   advance-step : Arrived → StepAt passages estimates m (during passages p i m) (during passages p (suc i) m)
@@ -92,6 +96,10 @@ module _ {passages estimates : List ℕ} {p l i : ℕ} {m : Machine} (z : Passin
   passes-other : near passages i ≢ p → Passing passages estimates p l (suc i) m
   passes-other d = advanced (λ j e. absurd (d e))
 
+  -- a blocked passage, which is no part of any route
+  passes-blocked : isClear passages i ≡ false → Passing passages estimates p l (suc i) m
+  passes-blocked b = advanced (λ (_, k) e. absurd (true≢false (sym k ∙ b)))
+
   -- a far end that keeps its label
   passes-kept : lowersFar passages l i m ≡ false → Passing passages estimates p l (suc i) m
   passes-kept e = advanced (λ j q. go (lowers-no _ _ _ e) (decLe 2 (markOf m (far passages i))))
@@ -102,7 +110,7 @@ module _ {passages estimates : List ℕ} {p l i : ℕ} {m : Machine} (z : Passin
       go (s, k) (no d) = (s, inl (omega (arith, k (omega arith), z .label, mul-le-mul-right (cost passages i) (z .sure .task .consistent .hundred))))
 
   -- a far end q that is opened or gets a smaller label
-  module _ (j : i < passageCount passages) (from : near passages i ≡ p) (e : lowersFar passages l i m ≡ true) where
+  module _ (j : Counts passages i) (from : near passages i ≡ p) (e : lowersFar passages l i m ≡ true) where
     abbrev q : ℕ
     q = far passages i
 
@@ -184,14 +192,14 @@ module _ {passages estimates : List ℕ} {p l i : ℕ} {m : Machine} (z : Passin
     arrived : Reached (m .excess) (graph (taskOf m passages estimates)) (during passages p i (lowered passages l i m)) p i
     arrived = (omega (arith, lowered-now), inl (omega (arith, new, touched .label, mul-le-mul-right (cost passages i) (z .sure .task .consistent .hundred))))
 
-passes-lowered : {passages estimates : List ℕ} {p l i : ℕ} {m : Machine} → Passing passages estimates p l i m → i < passageCount passages → near passages i ≡ p
+passes-lowered : {passages estimates : List ℕ} {p l i : ℕ} {m : Machine} → Passing passages estimates p l i m → Counts passages i → near passages i ≡ p
     → lowersFar passages l i m ≡ true → Passing passages estimates p l (suc i) (lowered passages l i m)
 passes-lowered z j from e = advanced (touched z j from e) (λ _ _. arrived z j from e)
 
 -- what a passage that gives a label keeps, the whole pass keeps
 abbrev pub Keeps : List ℕ → List ℕ → ℕ → ℕ → (Machine → Type 0) → Type 0
 Keeps passages estimates p l P =
-    (i : ℕ) (m : Machine) → Passing passages estimates p l i m → i < passageCount passages → near passages i ≡ p → lowersFar passages l i m ≡ true
+    (i : ℕ) (m : Machine) → Passing passages estimates p l i m → Counts passages i → near passages i ≡ p → lowersFar passages l i m ≡ true
     → P m → P (lowered passages l i m)
 
 module _ (passages estimates : List ℕ) (p l : ℕ) (P : Machine → Type 0) (keeps : Keeps passages estimates p l P) where
@@ -201,16 +209,18 @@ module _ (passages estimates : List ℕ) (p l : ℕ) (P : Machine → Type 0) (k
   -- one passage
   passes : (i : ℕ) (w : Swept) → i < passageCount passages → PassedTo i (w .machine) → PassedTo (suc i) (applyPassage passages p l i w .machine)
   unfolding applyPassage
-  passes i w j (z, a) = mine (eqb (near passages i) p) refl
+  passes i w j (z, a) = mine (eqb (near passages i) p) refl (isClear passages i) refl
     where
-      lowering : near passages i ≡ p → (b : Bool) → lowersFar passages l i (w .machine) ≡ b
+      lowering : near passages i ≡ p → isClear passages i ≡ true → (b : Bool) → lowersFar passages l i (w .machine) ≡ b
           → PassedTo (suc i) (cond b (swept (lowered passages l i (w .machine)) (w .many + 1)) w .machine)
-      lowering f true e = (passes-lowered z j f e, keeps i (w .machine) z j f e a)
-      lowering f false e = (passes-kept z e, a)
+      lowering f k true e = (passes-lowered z (j, k) f e, keeps i (w .machine) z (j, k) f e a)
+      lowering f k false e = (passes-kept z e, a)
 
-      mine : (b : Bool) → eqb (near passages i) p ≡ b → PassedTo (suc i) (cond b (reach (far passages i) (l + cost passages i) i w) w .machine)
-      mine true e = lowering (eqb-true (near passages i) p e) (lowersFar passages l i (w .machine)) refl
-      mine false e = (passes-other z (eqb-false (near passages i) p e), a)
+      mine : (b : Bool) → eqb (near passages i) p ≡ b → (clear : Bool) → isClear passages i ≡ clear
+          → PassedTo (suc i) (cond (b && clear) (reach (far passages i) (l + cost passages i) i w) w .machine)
+      mine true e true k = lowering (eqb-true (near passages i) p e) k (lowersFar passages l i (w .machine)) refl
+      mine true e false k = (passes-blocked z k, a)
+      mine false e clear k = (passes-other z (eqb-false (near passages i) p e), a)
 
   -- all passages below i
   pass : (w : Swept) → PassedTo 0 (w .machine) → (i : ℕ) → i ≤ passageCount passages → PassedTo i (fold (applyPassage passages p l) w i .machine)

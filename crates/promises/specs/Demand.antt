@@ -4,14 +4,15 @@ use mathlib.Core.Bool.{cond, true, false}
 use mathlib.Core.Logic.{_≢_}
 use mathlib.Core.List.{List, [], _∷_, _++_, map}
 use Prim.Native.Nat.{ℕ, _+_, _-_, _*_, _≤_, _<_}
-use lib.ListN.{length, take, drop}
+use lib.ListN.{length, getD, take, drop}
 use lib.Dec.{eqb}
 use Rattle.laws.specs.Part.{overlaid}
-use Rattle.rule.specs.Task.{passageCount, near, far, cost, estimate}
+use Rattle.rule.specs.Task.{passageCount, near, far, cost, isClear, estimate}
 use Rattle.rule.specs.Marks.{waiting, out, isLive}
 use Rattle.argument.specs.Route.{Graph, Walk, costOf}
 use Rattle.checks.specs.Opening.{Task}
 use Rattle.dealing.specs.Board.{key, dependsOn}
+use Rattle.trail.specs.Trail.{stateBack}
 use Rattle.desk.specs.declared.Machine.{Machine}
 use Rattle.desk.specs.declared.Reply.{Reply}
 use Rattle.desk.specs.declared.Reply.the-variants.{Opened, Found, NoPath, Read, Refused}
@@ -38,9 +39,9 @@ said t events = replies (t .passages) (t .estimates) (openingOf t .machine) even
 abbrev pub next : Task → List Event → Event → Answer
 next t events e = call (t .passages) (t .estimates) (reached t events) e
 
--- the task's passages as a graph
+-- the task's passages as a graph; order 4: a blocked passage "is no part of any route"
 abbrev pub graph : Task → Graph
-graph t = record { edge = λ i. i < passageCount (t .passages); near = near (t .passages); far = far (t .passages); cost = cost (t .passages) }
+graph t = record { edge = λ i. (i < passageCount (t .passages)) × (isClear (t .passages) i ≡ true); near = near (t .passages); far = far (t .passages); cost = cost (t .passages) }
 
 -- "A route is a chain of passages from start to goal; if start is goal the chain without passages is a route of cost 0.": a list of passage numbers, and its cost
 abbrev pub IsRoute : Task → List ℕ → Type 0
@@ -127,3 +128,8 @@ pub record AsSingly (passages estimates : List ℕ) (m : Machine) (events row : 
 pub record MorningRuns (t : Task) (so-far : List Event) (events : List ℕ) (o : Morning) : Type 0 where
   pub machine : o .given .machine ≡ reached t (so-far ++ eventsOf events)
   pub replied : said t (so-far ++ eventsOf events) ≡ said t so-far ++ map replyOf (take (length events) (o .row))
+
+-- Order 4, blocked means blocked: a path that is read out, of whatever machine, uses no blocked passage. Each state but the start came by a passage that isn't blocked.
+pub record NoneBlocked (passages : List ℕ) (m : Machine) (many : ℕ) : Type 0 where
+  pub passage : (i : ℕ) → i + 1 < many → getD (m .via) (stateBack passages (m .via) (m .goal) i) 0 < passageCount passages
+  pub clear : (i : ℕ) → i + 1 < many → isClear passages (getD (m .via) (stateBack passages (m .via) (m .goal) i) 0) ≡ true

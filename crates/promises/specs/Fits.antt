@@ -76,7 +76,7 @@ module _ (t : Task) (a : Sound t) where
       held = length-replicate 32 none;
     };
     marks = λ s. omega (arith, opened-low s);
-    good = good-fresh (graph t) (t .n) (t .excess) (t .start) (t .goal) (passageCount (t .passages)) (between (t .passages) (openedMachine t)) (λ i l. l) (record {
+    good = good-fresh (graph t) (t .n) (t .excess) (t .start) (t .goal) (passageCount (t .passages)) (between (t .passages) (openedMachine t)) (λ i (l, _). l) (record {
       inside = a .right .start-in;
       mark = opened-now;
       other = opened-else;
@@ -176,7 +176,7 @@ module _ {passages estimates : List ℕ} {m : Machine} (z : Whole passages estim
   abbrev dealtCount : ℕ
   dealtCount = count (fixed (between passages m)) (m .n)
 
-  -- a chain has fewer links than there are states, each of cost 1,000,000 at most
+  -- a chain has fewer links than there are states, each of cost 1,000,000 at most, since none is blocked
   label-small : (s : ℕ) → s < m .n → labelOf m s ≤ 255000000
   label-small s l = go (ℕ-discrete (markOf m s) 0)
     where

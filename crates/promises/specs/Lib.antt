@@ -14,4 +14,5 @@ pub mod Runs
 pub mod Replies
 pub mod Waiting
 pub mod Mornings
+pub mod Blocked
 pub mod Theorem

@@ -1,6 +1,6 @@
 -- A morning is its calls made singly: each reply comes back from its number in the row, since no call replies with a number above 32 bits.
 use mathlib.Core.Path.{_≡_, refl, sym, ap, subst⁻¹, _∙_}
-use mathlib.Core.Bool.{Bool, true, false, cond}
+use mathlib.Core.Bool.{Bool, true, false, _&&_, cond}
 use mathlib.Core.List.{List, [], _∷_, _++_, map}
 use Prim.Native.Nat.{ℕ, zero, suc, _+_, _≤_, _<_}
 use native.Mathlib.Nat.{zero-add}
@@ -9,7 +9,7 @@ use lib.ListN.{length, getD, drop, length-map}
 use lib.Seq.{take-at, drop-at}
 use lib.Dec.{eqb}
 use Rattle.laws.specs.Fold.{fold}
-use Rattle.rule.specs.Task.{passageCount, near, far, cost}
+use Rattle.rule.specs.Task.{passageCount, near, far, cost, isClear}
 use Rattle.rule.specs.Rule.{lowers}
 use Rattle.checks.specs.Opening.{Task}
 use Rattle.checks.specs.Laws.{label-low}
@@ -37,7 +37,7 @@ use Rattle.promises.specs.Waiting.{wait-right}
 module _ (passages : List ℕ) (state label : ℕ) where
   apply-many : (i : ℕ) (w : Swept) → applyPassage passages state label i w .many ≤ w .many + 1
   unfolding applyPassage
-  apply-many i w = go (eqb (near passages i) state) (lowers (getD (w .machine .mark) (far passages i) 0) (labelOf (w .machine) (far passages i)) (label + cost passages i))
+  apply-many i w = go (eqb (near passages i) state && isClear passages i) (lowers (getD (w .machine .mark) (far passages i) 0) (labelOf (w .machine) (far passages i)) (label + cost passages i))
     where
       go : (t u : Bool) → cond t (cond u (swept (labelled (w .machine) (far passages i) (label + cost passages i) i) (w .many + 1)) w) w .many ≤ w .many + 1
       go true true = omega arith

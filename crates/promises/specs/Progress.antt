@@ -13,11 +13,11 @@ use Rattle.laws.specs.First.{first-before, first-none, any-none, any-some}
 use Rattle.laws.specs.Least.{least, IsLeast, least-is}
 use Rattle.rule.specs.Marks.{waiting, isOpen, isOut, isLive}
 use Rattle.rule.specs.Rule.{holdsBack, independent-is}
-use Rattle.dealing.specs.Board.{Board, markAt, labelAt, h, dependsOn, firstDependence, safe, key, choice, anyOpen, anyOut}
+use Rattle.dealing.specs.Board.{Board, markAt, labelAt, h, dependsOn, firstDependence, safe, choice, anyOpen, anyOut}
 use Rattle.dealing.specs.declared.Decision.{Decision}
 use Rattle.dealing.specs.declared.Decision.the-variants.{Found, NoPath, Deal, Stuck, Wait}
 use Rattle.dealing.specs.Decision.{waitedFor, decision}
-use Rattle.dealing.specs.Laws.{safe-open, depends-self}
+use Rattle.dealing.specs.Laws.{safe-open, depends-self, choice-safe, choice-none}
 
 -- s is independent of every other live state
 abbrev pub Free : Board → ℕ → Type 0
@@ -85,30 +85,25 @@ Chosen goal pull b Stuck = ⊥
 Chosen goal pull b (Wait s) = (anyOut b ≡ true) × ((x : ℕ) → x < b .n → safe b x ≡ false) × (s ≡ waitedFor goal pull b)
 
 module _ (goal pull : ℕ) (b : Board) where
-  choice-is : IsLeast (safe b) (key goal pull b) (b .n) (b .n) (choice goal pull b)
-  unfolding choice
-  choice-is = least-is (safe b) (key goal pull b) (b .n) (b .n) (omega arith)
-
-  -- what is chosen is safe; where nothing is chosen, nothing is safe
-  choice-safe : ltb (choice goal pull b) (b .n) ≡ true → safe b (choice goal pull b) ≡ true
-  choice-safe e = let l = ltb-true (choice goal pull b) (b .n) e in ⊎-elim (λ w. absurd (omega (arith, w .0))) (λ w. w .1) choice-is
-
-  choice-none : ltb (choice goal pull b) (b .n) ≡ false → (s : ℕ) → s < b .n → safe b s ≡ false
-  choice-none e = let l = ltb-false (choice goal pull b) (b .n) e in ⊎-elim (λ w. w .1) (λ w. absurd (omega (arith, w .0))) choice-is
-
   pub chosen : Chosen goal pull b (decision goal pull b)
   unfolding decision anyOpen anyOut
   chosen = go (safe b goal) refl (anyOpen b) refl (anyOut b) refl (ltb (choice goal pull b) (b .n)) refl
     where
       deal : safe b goal ≡ false → ltb (choice goal pull b) (b .n) ≡ true → Chosen goal pull b (Deal (choice goal pull b))
-      deal e d = let f = choice-safe d in (f, λ q. true≢false (sym f ∙ ap (safe b) q ∙ e), ltb-true (choice goal pull b) (b .n) d)
+      deal e d =
+          let l = ltb-true (choice goal pull b) (b .n) d in
+          let f = choice-safe goal pull b l in
+          (f, λ q. true≢false (sym f ∙ ap (safe b) q ∙ e), l)
+
+      none : ltb (choice goal pull b) (b .n) ≡ false → (s : ℕ) → s < b .n → safe b s ≡ false
+      none d = choice-none goal pull b (ltb-false (choice goal pull b) (b .n) d)
 
       go : (found : Bool) → safe b goal ≡ found → (some : Bool) → anyOpen b ≡ some → (busy : Bool) → anyOut b ≡ busy → (deals : Bool) → ltb (choice goal pull b) (b .n) ≡ deals
           → Chosen goal pull b (cond found (Found (labelAt b goal)) (cond (not some && not busy) NoPath (cond deals (Deal (choice goal pull b)) (cond (not busy) Stuck (Wait (waitedFor goal pull b))))))
       go true e some o busy q deals d = (e, refl)
       go false e false o false q deals d = λ u l. rw (any-none (λ u. isOpen (markAt b u)) (b .n) o u l, any-none (λ u. isOut (markAt b u)) (b .n) q u l)
       go false e false o true q true d = deal e d
-      go false e false o true q false d = (q, choice-none d, refl)
+      go false e false o true q false d = (q, none d, refl)
       go false e true o busy q true d = deal e d
-      go false e true o false q false d = let (s, l, f) = some-safe b q o in true≢false (sym f ∙ choice-none d s l)
-      go false e true o true q false d = (q, choice-none d, refl)
+      go false e true o false q false d = let (s, l, f) = some-safe b q o in true≢false (sym f ∙ none d s l)
+      go false e true o true q false d = (q, none d, refl)

@@ -57,11 +57,12 @@ module _ (passages estimates : List ℕ) (m : Machine) (places : ℕ → ℕ) wh
   unfolding isHome
   not-home s d = rw (ne-eqb s (m .start) d)
 
-  is-linked : (s i : ℕ) → viaOf m s ≡ i → i < passageCount passages → far passages i ≡ s → labelOf m s ≡ labelOf m (near passages i) + cost passages i
+  is-linked : (s i : ℕ) → viaOf m s ≡ i → graph t .edge i → far passages i ≡ s → labelOf m s ≡ labelOf m (near passages i) + cost passages i
       → linkedAt (trailOf m passages) s ≡ true
   unfolding isLinked
-  is-linked s i v l f q =
-      rw v (and-both (lt-ltb i (passageCount passages) l) (and-both (eq-eqb (far passages i) s f) (eq-eqb (labelOf m s) (labelOf m (near passages i) + cost passages i) q)))
+  is-linked s i v (l, k) f q =
+      rw v (and-both (lt-ltb i (passageCount passages) l)
+      (and-both k (and-both (eq-eqb (far passages i) s f) (eq-eqb (labelOf m s) (labelOf m (near passages i) + cost passages i) q))))
 
   -- how long a path is, where going back has come to s, i states from the goal, and k links of a chain are left
   chain-length : Inside passages → (s k i : ℕ) → Back s k → Gone (trailOf m passages) s i → i + k < m .n → suc (i + k) ≡ pathLength (trailOf m passages)

@@ -9,6 +9,7 @@ use Rattle.rule.specs.Task.{passageCount, estimate}
 use Rattle.argument.specs.Route.{costOf, walk-route}
 use Rattle.argument.specs.Good.{found-cost, found-chain, no-path}
 use Rattle.checks.specs.Opening.{Task}
+use Rattle.checks.specs.Laws.{near-in}
 use Rattle.dealing.specs.Board.{safe}
 use Rattle.dealing.specs.declared.Decision.{Decision}
 use Rattle.dealing.specs.declared.Decision.the-variants.{Found as FoundAt, NoPath as NoPathLeft, Deal, Stuck, Wait as WaitOn}
@@ -59,7 +60,7 @@ module _ {passages estimates : List ℕ} {m : Machine} (z : Whole passages estim
         let (k, c, l) = found-chain (graph t) (m .n) (m .excess) (estimate estimates (m .n)) (sound .consistent) (m .start) (m .goal) (passageCount passages) (between passages m)
         (z .sure .good) (sound .right .goal-in) (omega arith) in
         let r : Readable passages estimates (withPhase m 1) k = readable passages estimates (withPhase m 1) (applied passages m) k
-        (λ i j. omega (arith, sound .consistent .ends i j, sound .right .states)) (omega (arith, sound .right .goal-in, sound .right .states)) (whole-fits y) refl c l in
+        (λ i j. omega (arith, near-in passages (m .n) (sound .right .listed) i j, sound .right .states)) (omega (arith, sound .right .goal-in, sound .right .states)) (whole-fits y) refl c l in
         record {
           way = r .way;
           route = r .walk;

@@ -1,21 +1,20 @@
 -- Who a Wait is for: the state that it names is live, something is out, and the smallest-key open state depends on it.
 use mathlib.Core.Path.{_≡_, refl, sym, subst, _∙_}
 use mathlib.Core.Bool.{Bool, true, false, not, cond, true≢false}
-use mathlib.Core.Logic.{_≢_, inl, inr, ⊎-elim}
+use mathlib.Core.Logic.{_≢_, inl, inr}
 use mathlib.Core.List.{List}
 use Prim.Native.Nat.{ℕ, _+_, _*_, _<_}
-use native.Mathlib.Nat.{eq-or-lt-of-le}
 use native.Mathlib.Omega.{arith}
 use lib.Dec.{eqb}
 use borrow.Author.Tests.{ltb-true, leb-false, eqb-true, eqb-false, eq-eqb, not-true}
 use Rattle.laws.specs.Truth.{and-left, and-right}
-use Rattle.laws.specs.First.{first, first-le, first-passes, first-before, any-none, any-some}
+use Rattle.laws.specs.First.{first, first-passes, first-before, any-none, any-some}
 use Rattle.laws.specs.Least.{IsLeast, least-is, least-lowest}
 use Rattle.rule.specs.Marks.{waiting, out, isOpen, isOut, isLive}
 use Rattle.rule.specs.Rule.{independent, holdsBack, independent-is}
 use Rattle.dealing.specs.Board.{Board, markAt, labelAt, h, dependsOn, firstDependence, safe, key, foremost, anyOpen, anyOut, firstMarked}
 use Rattle.dealing.specs.Decision.{waitedFor}
-use Rattle.dealing.specs.Laws.{safe-open}
+use Rattle.dealing.specs.Laws.{foremost-held}
 use Rattle.dealing.specs.declared.Decision.{Decision}
 use Rattle.dealing.specs.declared.Decision.the-variants.{Found, NoPath, Deal, Stuck, Wait as WaitOn}
 use Rattle.desk.specs.declared.Machine.{Machine}
@@ -80,10 +79,7 @@ module _ (m : Machine) (estimates : List ℕ) where
     stop = firstDependence b front
 
     stop-in : stop < m .n
-    unfolding firstDependence
-    stop-in =
-        let f = front-is o in
-        ⊎-elim (λ q. absurd (true≢false (sym (safe-open b front (f .opened) q) ∙ unsafe front (f .state)))) (λ l. l) (eq-or-lt-of-le (first-le (dependsOn b front) (m .n)))
+    stop-in = foremost-held (m .goal) (m .pull) b (λ q. omega (arith, q, front-is o .state)) unsafe
 
     stop-depends : dependsOn b front stop ≡ true
     unfolding firstDependence

@@ -1,6 +1,6 @@
 -- A session's text as its functions build it: what each call spends of the buffer, the text after so many events, and the report by what reading a file comes to.
 use mathlib.Core.Path.{_≡_, refl, sym, ap, subst, subst⁻¹, _∙_}
-use mathlib.Core.Bool.{Bool, true, false, not, cond}
+use mathlib.Core.Bool.{Bool, true, false, _&&_, not, cond}
 use mathlib.Core.List.{List, [], _∷_, _++_, append-nil, append-assoc}
 use Prim.Native.Nat.{ℕ, zero, suc, _+_, _-_, _*_, _%_, _≤_, _<_}
 use native.Mathlib.Omega.{arith}
@@ -11,7 +11,7 @@ use Rattle.laws.specs.Truth.{provided, provided-either}
 use Rattle.laws.specs.Fold.{fold}
 use Rattle.laws.specs.Part.{overlaid}
 use Rattle.laws.specs.Put.{Put, put-next, put-none, put-length}
-use Rattle.rule.specs.Task.{passageCount, near, far, cost}
+use Rattle.rule.specs.Task.{passageCount, near, far, cost, isClear}
 use Rattle.rule.specs.Rule.{lowers}
 use Rattle.checks.specs.Opening.{task}
 use Rattle.dealing.specs.declared.Decision.{Decision}
@@ -52,7 +52,7 @@ Spends m a = spare (a .machine) + reserve (a .reply) ≤ spare m
 module _ (passages : List ℕ) (state label : ℕ) where
   apply-phase : (i : ℕ) (w : Swept) → applyPassage passages state label i w .machine .phase ≡ w .machine .phase
   unfolding applyPassage
-  apply-phase i w = go (eqb (near passages i) state) (lowers (getD (w .machine .mark) (far passages i) 0) (labelOf (w .machine) (far passages i)) (label + cost passages i))
+  apply-phase i w = go (eqb (near passages i) state && isClear passages i) (lowers (getD (w .machine .mark) (far passages i) 0) (labelOf (w .machine) (far passages i)) (label + cost passages i))
     where
       go : (t u : Bool) → cond t (cond u (swept (labelled (w .machine) (far passages i) (label + cost passages i) i) (w .many + 1)) w) w .machine .phase ≡ w .machine .phase
       go true true = refl

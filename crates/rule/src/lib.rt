@@ -3,7 +3,7 @@
 ghost use mathlib.Core.Path.{_≡_};
 ghost use Prim.Native.Nat.{_+_, _<_};
 ghost use lib.Dec.{eqb};
-ghost use Rattle.rule.specs.Task.{passageCount, near, far, cost, estimate, Whole};
+ghost use Rattle.rule.specs.Task.{passageCount, near, far, cost, isClear, estimate, Whole};
 ghost use Rattle.rule.specs.Marks.{isLive};
 ghost use Rattle.rule.specs.Rule.{independent, holdsBack, keyOf, lowers};
 
@@ -14,6 +14,9 @@ pub const OPEN: u8 = 1;
 pub const OUT: u8 = 2;
 
 pub const FINISHED: u8 = 3;
+
+// The cost that marks a blocked passage.
+pub const BLOCKED: u32 = 4294967295;
 
 // "No passage" and "holds nothing".
 pub const NONE: u16 = 65535;
@@ -102,6 +105,14 @@ pub fn cost(passages: &[u32], i: usize) -> u32
     ensures { λ r. ⌜ r ≡ cost (now (passages .entry)) i ⌝ }
 {
     passages[3 * i + 2]
+}
+
+// Passage i isn't blocked.
+pub fn is_clear(passages: &[u32], i: usize) -> bool
+    requires { ⌜ i < passageCount (now passages) ⌝ }
+    ensures { λ r. ⌜ r ≡ isClear (now (passages .entry)) i ⌝ }
+{
+    cost(passages, i) != BLOCKED
 }
 
 // A stored passage or state number, as an index.

@@ -8,6 +8,7 @@ use Rattle.laws.specs.First.{first}
 use Rattle.laws.specs.Least.{least}
 use Rattle.laws.specs.Count.{count}
 use Rattle.laws.specs.All.{all}
+use Rattle.rule.specs.Task.{isClear}
 use Rattle.rule.specs.Rule.{independent, holdsBack, lowers}
 use Rattle.checks.specs.Opening.{Task, task, sizesRight, endsRight, weightsRight, passagesRight, estimatesRight, passagesBound, detoursBy, detoursFrom, detoursBound, earlyFault, fault}
 use Rattle.checks.specs.Fits.{marksRight, labelsRight, workersRight, holders, heldOnce}
@@ -113,7 +114,7 @@ pub record Starred : Type 0 where
   pub C6 : run taskA (bring 0 ∷ []) ≡ Refused 11 ∷ []
 
 pub starred : Starred
-unfolding fold first least count all independent holdsBack lowers sizesRight endsRight weightsRight passagesRight estimatesRight passagesBound detoursBy detoursFrom detoursBound earlyFault fault marksRight labelsRight workersRight holders heldOnce dependsOn firstDependence safe key choice foremost anyOpen anyOut firstMarked waitedFor decision stateBack isHome isLinked stopsAt pathLength statesBack fits openedMachine blankMachine openingOf admitted takeStep takeOf applyPassage sweepOf bringStep bringOf pathOf answers replies after
+unfolding fold first least count all isClear independent holdsBack lowers sizesRight endsRight weightsRight passagesRight estimatesRight passagesBound detoursBy detoursFrom detoursBound earlyFault fault marksRight labelsRight workersRight holders heldOnce dependsOn firstDependence safe key choice foremost anyOpen anyOut firstMarked waitedFor decision stateBack isHome isLinked stopsAt pathLength statesBack fits openedMachine blankMachine openingOf admitted takeStep takeOf applyPassage sweepOf bringStep bringOf pathOf answers replies after
 starred = record {
   A1 = refl;
   A1-reply = refl;

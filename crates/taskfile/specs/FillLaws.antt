@@ -3,12 +3,12 @@
 use mathlib.Core.Path.{_≡_, refl, sym, _∙_}
 use mathlib.Core.List.{List, [], _∷_, _++_}
 use Prim.Native.Nat.{ℕ, zero, suc, _+_, _*_, _≤_, _<_}
-use native.Mathlib.Nat.{zero-add, suc-mul, mul-le-mul-right}
+use native.Mathlib.Nat.{suc-mul, mul-le-mul-right}
 use native.Mathlib.Numerals.{add-one}
 use native.Mathlib.Omega.{arith}
 use lib.ListN.{length, set, length-append, length-set}
 use Rattle.laws.specs.Part.{overlaid}
-use Rattle.laws.specs.Fill.{Filled, filled-more, made-length, overlaid-none, overlaid-length, overlaid-one, overlaid-next}
+use Rattle.laws.specs.Fill.{made-length, overlaid-none, overlaid-length, overlaid-one, overlaid-next}
 use Rattle.taskfile.specs.Bytes.{word, long}
 use Rattle.taskfile.specs.Contents.{passagePlace, rowPlace, rowOf, passagesOf, estimatesOf}
 
@@ -29,10 +29,6 @@ written-more at xs ys l₀ l w e h =
 
 pub written-end : {X : Type 0} (f : ℕ → List X) (n : ℕ) (l₀ l : List X) (i : ℕ) → Written (f i) l₀ l → i ≤ n → n ≤ i → l ≡ overlaid 0 (f n) l₀
 written-end f n l₀ l i w a b = let q : i ≡ n = omega arith in rw q at (w .done)
-
--- a loop that fills from the front, of one place more
-pub filled-front : {X : Type 0} (f : ℕ → X) (l₀ l : List X) (i : ℕ) → Filled f 0 l₀ l i → i < length l₀ → (v : X) → v ≡ f i → Filled f 0 l₀ (set l i v) (i + 1)
-filled-front f l₀ l i w h v e = rw zero-add at (filled-more f 0 l₀ l i w (omega arith) v e)
 
 -- three places in a row stored
 pub overlaid-three : {X : Type 0} (at : ℕ) (l : List X) (a b c : X) → at + 3 ≤ length l → set (set (set l at a) (at + 1) b) (at + 2) c ≡ overlaid at (a ∷ b ∷ c ∷ []) l

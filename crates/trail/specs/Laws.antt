@@ -10,11 +10,11 @@ use native.Mathlib.Omega.{arith}
 use lib.ListN.{length, getD, take, drop, set, length-set, take-append-drop}
 use lib.Dec.{ltb}
 use borrow.Author.Tests.{lt-ltb, le-ltb, ltb-true, not-false}
-use Rattle.laws.specs.Truth.{and-left}
+use Rattle.laws.specs.Truth.{and-left, and-right}
 use Rattle.laws.specs.Fold.{fold-zero, fold-more}
 use Rattle.laws.specs.First.{first, first-zero, first-more, first-found, first-end, first-before}
 use Rattle.laws.specs.Part.{set-last}
-use Rattle.rule.specs.Task.{passageCount, near}
+use Rattle.rule.specs.Task.{passageCount, near, isClear}
 use Rattle.trail.specs.Trail.{Trail, stepBack, stateBack, stateAt, homeAt, isLinked, linkedAt, stopsAt, pathLength, statesBack}
 
 -- every passage comes from a place of the rows: what condition 4 gives
@@ -40,6 +40,11 @@ back-more passages via goal i = fold-more (λ _ s. stepBack passages via s) goal
 pub linked-via : (passages label via : List ℕ) (s : ℕ) → isLinked passages label via s ≡ true → getD via s 0 < passageCount passages
 unfolding isLinked
 linked-via passages label via s e = ltb-true _ _ (and-left _ _ e)
+
+-- It isn't blocked.
+linked-clear : (passages label via : List ℕ) (s : ℕ) → isLinked passages label via s ≡ true → isClear passages (getD via s 0) ≡ true
+unfolding isLinked
+linked-clear passages label via s e = and-left _ _ (and-right (ltb (getD via s 0) (passageCount passages)) _ e)
 
 -- What going back knows at the i-th state, s: it didn't stop before, and s is a place of the rows.
 pub record Gone (t : Trail) (s i : ℕ) : Type 0 where
@@ -109,11 +114,18 @@ stops-linked t i e = go (homeAt t (stateAt t i)) (linkedAt t (stateAt t i)) e
     go true linked q = absurd (true≢false q)
     go false linked q = not-false linked q
 
-path-onward : (t : Trail) → (pathLength t ≡ 0 → ⊥) → (i : ℕ) → i + 1 < pathLength t → getD (t .via) (stateAt t i) 0 < passageCount (t .passages)
-path-onward t z i l =
+path-linked : (t : Trail) → (pathLength t ≡ 0 → ⊥) → (i : ℕ) → i + 1 < pathLength t → linkedAt t (stateAt t i) ≡ true
+path-linked t z i l =
     ⊎-elim (λ q. absurd (z q))
-    (λ w. linked-via (t .passages) (t .label) (t .via) (stateAt t i) (stops-linked t i (first-before (stopsAt t) (t .n) i (omega arith))))
+    (λ w. stops-linked t i (first-before (stopsAt t) (t .n) i (omega arith)))
     (path-cases t)
+
+pub path-onward : (t : Trail) → (pathLength t ≡ 0 → ⊥) → (i : ℕ) → i + 1 < pathLength t → getD (t .via) (stateAt t i) 0 < passageCount (t .passages)
+path-onward t z i l = linked-via (t .passages) (t .label) (t .via) (stateAt t i) (path-linked t z i l)
+
+-- a path that going back found uses no blocked passage
+pub path-clear : (t : Trail) → (pathLength t ≡ 0 → ⊥) → (i : ℕ) → i + 1 < pathLength t → isClear (t .passages) (getD (t .via) (stateAt t i) 0) ≡ true
+path-clear t z i l = linked-clear (t .passages) (t .label) (t .via) (stateAt t i) (path-linked t z i l)
 
 path-inside : (t : Trail) → Inside (t .passages) → t .goal < 256 → (pathLength t ≡ 0 → ⊥) → (i : ℕ) → i < pathLength t → stateAt t i < 256
 path-inside t inside g z zero l = rw (back-zero (t .passages) (t .via) (t .goal)) g

@@ -6,7 +6,7 @@ use lib.ListN.{getD}
 use lib.Dec.{ltb, eqb}
 use Rattle.laws.specs.Fold.{fold}
 use Rattle.laws.specs.First.{first}
-use Rattle.rule.specs.Task.{passageCount, near, far, cost}
+use Rattle.rule.specs.Task.{passageCount, near, far, cost, isClear}
 
 -- what going back reads: the passages, and each state's label and the number of the passage that the label came by
 pub record Trail : Type 0 where
@@ -38,12 +38,13 @@ isHome start s label = eqb s start && eqb label 0
 abbrev pub homeAt : Trail → ℕ → Bool
 homeAt t s = isHome (t .start) s (getD (t .label) s 0)
 
--- refusal 14: "a passage number isn't one, doesn't end at the state, label isn't near label + cost"; here that none of these applies to s
+-- refusal 14: "a passage number isn't one, doesn't end at the state, label isn't near label + cost", order 4 "also where the path would use a blocked passage"; here that none of these applies to s
 unfoldable pub isLinked : List ℕ → List ℕ → List ℕ → ℕ → Bool
 isLinked passages label via s =
     ltb (getD via s 0) (passageCount passages)
+    && (isClear passages (getD via s 0)
     && (eqb (far passages (getD via s 0)) s
-    && eqb (getD label s 0) (getD label (stepBack passages via s) 0 + cost passages (getD via s 0)))
+    && eqb (getD label s 0) (getD label (stepBack passages via s) 0 + cost passages (getD via s 0))))
 
 abbrev pub linkedAt : Trail → ℕ → Bool
 linkedAt t s = isLinked (t .passages) (t .label) (t .via) s

@@ -17,13 +17,16 @@ pub fn is_home(start: usize, s: usize, label: u32) -> bool
     label == 0
 }
 
-// The passage that s came by is one, ends at s, and its cost is what the labels differ by.
+// The passage that s came by is one, isn't blocked, ends at s, and its cost is what the labels differ by.
 pub fn is_linked<'a>(label: &'a [u32; 256], via: &'a [u16; 256], passages: &[u32], s: usize) -> bool
     requires { ⌜ Inside (now passages) × (s < 256) ⌝ }
     ensures { λ r. ⌜ r ≡ isLinked (now (passages .entry)) (now (label .entry)) (now (via .entry)) s ⌝ }
 {
     let i = rule::wide(via[s]);
     if i >= passages.len() / 3 {
+        return false;
+    }
+    if !rule::is_clear(passages, i) {
         return false;
     }
     if rule::far(passages, i) != s {

@@ -37,6 +37,9 @@ fn search(desks: &mut Desks, rng: &mut Rng, task: &Task) -> Checked<()> {
         let (action, worker) = maker::call(rng, &row, eager_percent);
         let reply = desks.call(action, &mut row, task.graph(), worker)?;
         watch.see(reply)?;
+        if let Reply::Brought(_) = reply {
+            watch.see_labels(&row)?;
+        }
         if rng.percent(3) {
             read_path(desks, rng, &row, task)?;
         }
@@ -57,10 +60,11 @@ fn read_end(desks: &mut Desks, rng: &mut Rng, mut row: Vec<u32>, task: &Task) ->
     for _ in 0..3 {
         read_path(desks, rng, &row, task)?;
     }
-    for _ in 0..3 {
-        if row[PHASE] == u32::from(FOUND) {
-            maker::damage_found(rng, &mut row, task);
-            read_path(desks, rng, &row, task)?;
+    if row[PHASE] == u32::from(FOUND) {
+        let mut task = task.clone();
+        for _ in 0..3 {
+            maker::damage_found(rng, &mut row, &mut task);
+            read_path(desks, rng, &row, &task)?;
         }
     }
     Ok(())
@@ -143,6 +147,7 @@ fn mornings(desks: &mut Desks, rng: &mut Rng) -> Checked<()> {
                 check_path(desks, &watch, &row, &task, cost)?;
             }
         }
+        watch.see_labels(&row)?;
     }
     Ok(())
 }

@@ -1,14 +1,15 @@
 //! What demand 3 asks of the calls on a task that opening accepted, checked
 //! with an own Dijkstra: no state is dealt twice; a found path is a chain of the
 //! task's passages from start to goal that adds up to its cost, and 100 * cost is
-//! at most E * shortest; NoPath is given only where there is no route.
+//! at most E * shortest; NoPath is given only where there is no route. A blocked
+//! passage is no part of any route, and no label comes by one (order 4).
 //!
 //! And what document 02 asks on any machine: of a Wait (order 1), checked with own
 //! sums, that it names the state that is waited for; of a morning (order 2) that
 //! it leaves what as many single calls to the same desk leave. What order 3 asks
 //! is in `maps`.
 
-use crate::desk::{Graph, Machine, Reply, Task, MAX_STATES, OPEN, OUT};
+use crate::desk::{is_blocked, Graph, Machine, Reply, Task, MAX_STATES, NONE, OPEN, OUT};
 use crate::morning::Event;
 use crate::rows::{self, RowDesk, Shown, VIAS};
 
@@ -68,6 +69,22 @@ impl<'a> Watch<'a> {
         }
     }
 
+    /// Checks that no label of the machine in `row` came by a blocked passage.
+    pub fn see_labels(&self, row: &[u32]) -> Result<(), String> {
+        let vias = row[VIAS..][..self.task.head.n].iter().enumerate();
+        for (state, &number) in vias.filter(|(_, &number)| number != u32::from(NONE)) {
+            if self.passage(number).is_none_or(is_blocked) {
+                return Err(format!("state {state} came by {number}, blocked or none"));
+            }
+        }
+        Ok(())
+    }
+
+    /// The passage of a number, if there is one.
+    fn passage(&self, number: u32) -> Option<&[u32]> {
+        self.task.passages.chunks_exact(3).nth(number as usize)
+    }
+
     /// Checks a path read out of the machine in `row` after Found `cost`.
     pub fn see_path(&self, row: &[u32], path: &[u16], cost: u32) -> Result<(), String> {
         let head = &self.task.head;
@@ -87,10 +104,14 @@ impl<'a> Watch<'a> {
 
     /// The cost of the passage that the machine came to `to` by.
     fn step_cost(&self, row: &[u32], from: u16, to: u16) -> Result<u64, String> {
-        let number = row[VIAS + usize::from(to)] as usize;
-        match self.task.passages.chunks_exact(3).nth(number) {
-            Some(p) if p[0] == u32::from(from) && p[1] == u32::from(to) => Ok(u64::from(p[2])),
-            _ => Err(format!("passage {number} is none from {from} to {to}")),
+        let number = row[VIAS + usize::from(to)];
+        match self.passage(number) {
+            Some(p) if p[..2] != [u32::from(from), u32::from(to)] => {
+                Err(format!("passage {number} is none from {from} to {to}"))
+            }
+            Some(p) if is_blocked(p) => Err(format!("passage {number} is blocked")),
+            Some(p) => Ok(u64::from(p[2])),
+            None => Err(format!("there is no passage {number}")),
         }
     }
 }
@@ -216,7 +237,8 @@ fn serve_singly(
     Ok(())
 }
 
-/// The cost of a cheapest route, if there is a route (Dijkstra).
+/// The cost of a cheapest route, if there is a route (Dijkstra); blocked passages
+/// are no part of one.
 pub fn shortest(task: &Task) -> Option<u64> {
     let mut distance = vec![u64::MAX; task.head.n];
     let mut done = vec![false; task.head.n];
@@ -232,7 +254,7 @@ pub fn shortest(task: &Task) -> Option<u64> {
         for p in task
             .passages
             .chunks_exact(3)
-            .filter(|p| p[0] as usize == nearest)
+            .filter(|p| p[0] as usize == nearest && !is_blocked(p))
         {
             let far = &mut distance[p[1] as usize];
             *far = (*far).min(base + u64::from(p[2]));

@@ -1,10 +1,12 @@
 //! The independent desk: task, machine, opening, Take, Bring and path reading,
-//! written straight from document 01 and order 1 of document 02.
+//! written straight from document 01 and orders 1 and 4 of document 02.
 
 pub const MAX_STATES: usize = 256;
 pub const MAX_WORKERS: usize = 32;
 pub const MAX_PASSAGES: usize = 4096;
 pub const MAX_COST: u32 = 1_000_000;
+/// The cost that marks a passage as blocked (order 4).
+pub const BLOCKED: u32 = 4_294_967_295;
 /// The bound of estimates and of the labels of a machine that fits.
 pub const MAX_LABEL: u32 = 255_000_000;
 /// "No passage" and "holds nothing".
@@ -302,12 +304,13 @@ impl Machine {
         }
     }
 
-    /// Sets or lowers labels along the passages from `state`; says how often.
+    /// Sets or lowers labels along the passages from `state`, all but the blocked
+    /// ones; says how often.
     fn relax(&mut self, passages: &[u32], state: usize) -> u32 {
         let label = self.labels[state];
         let mut count = 0;
         for (number, passage) in passages.chunks_exact(3).enumerate() {
-            if passage[0] as usize != state {
+            if passage[0] as usize != state || is_blocked(passage) {
                 continue;
             }
             let to = passage[1] as usize;
@@ -333,9 +336,11 @@ impl Machine {
             }
             let first = usize::from(self.vias[state]) * 3;
             let passage = passages.get(first..first + 3)?;
+            if passage[1] as usize != state || is_blocked(passage) {
+                return None;
+            }
             let from = passage[0] as usize;
-            let adds_up = self.labels[state] == self.labels[from] + passage[2];
-            if passage[1] as usize != state || !adds_up {
+            if self.labels[state] != self.labels[from] + passage[2] {
                 return None;
             }
             state = from;
@@ -383,19 +388,26 @@ fn sizes_in_range(head: &Head, graph: Graph) -> bool {
 }
 
 fn passages_in_range(n: usize, passages: &[u32]) -> bool {
-    passages
-        .chunks_exact(3)
-        .all(|p| (p[0] as usize) < n && (p[1] as usize) < n && p[2] <= MAX_COST)
+    passages.chunks_exact(3).all(|p| {
+        let cost_fits = p[2] <= MAX_COST || is_blocked(p);
+        (p[0] as usize) < n && (p[1] as usize) < n && cost_fits
+    })
+}
+
+pub fn is_blocked(passage: &[u32]) -> bool {
+    passage[2] == BLOCKED
 }
 
 fn estimates_in_range(n: usize, estimates: &[u32]) -> bool {
     estimates.iter().all(|&h| h <= MAX_LABEL) && estimates.iter().step_by(n + 1).all(|&h| h == 0)
 }
 
+/// Whether no estimate is above the cost of a passage; a blocked one has none.
 fn estimates_below_costs(n: usize, graph: Graph) -> bool {
     graph
         .passages
         .chunks_exact(3)
+        .filter(|passage| !is_blocked(passage))
         .all(|p| graph.estimates[p[0] as usize * n + p[1] as usize] <= p[2])
 }
 

@@ -1,4 +1,4 @@
-//! An independent route desk, written from document 01 and orders 1 to 3 of
+//! An independent route desk, written from document 01 and orders 1 to 4 of
 //! document 02 alone, and what compares the proved desk with it.
 //!
 //! - `desk`: the task, the machine, opening, Take, Bring and path reading.

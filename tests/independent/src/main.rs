@@ -36,18 +36,15 @@ fn main() -> ExitCode {
             return ExitCode::from(2);
         }
     };
-    if let Some(folder) = &options.maps {
-        return report_maps(folder);
-    }
-    let library = match (options.only_self, independent::library()) {
-        (true, _) => None,
-        (false, Some(library)) => Some(library),
-        (false, None) => {
-            eprintln!("built without the library: set DESK_LIB_DIR and build, or use --self");
-            return ExitCode::from(2);
-        }
-    };
+    let library = independent::library().filter(|_| !options.only_self);
     let mut desks = Desks::new(library, options.only_case.is_some());
+    if let Some(folder) = &options.maps {
+        return report_maps(&mut desks, folder);
+    }
+    if library.is_none() && !options.only_self {
+        eprintln!("built without the library: set DESK_LIB_DIR and build, or use --self");
+        return ExitCode::from(2);
+    }
     let (compared, differences) = match options.only_case {
         Some(case) => (1, report_case(&mut desks, options.seed, case)),
         None => run_all(&mut desks, &options),
@@ -126,9 +123,8 @@ fn report_runs(name: &str, desk: &dyn RowDesk) -> u64 {
 }
 
 /// Reads the sample maps; status 1 where one isn't as expected, or there is none.
-fn report_maps(folder: &Path) -> ExitCode {
-    let mut desks = Desks::new(independent::library(), false);
-    let (as_expected, faults) = match check_maps(&mut desks, folder) {
+fn report_maps(desks: &mut Desks, folder: &Path) -> ExitCode {
+    let (as_expected, faults) = match check_maps(desks, folder) {
         Ok(outcome) => outcome,
         Err(fault) => (0, vec![fault]),
     };

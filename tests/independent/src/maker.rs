@@ -2,8 +2,8 @@
 //! task files, good and damaged, all drawn from a seed and a case number.
 
 use crate::desk::{
-    Action, Graph, Head, Task, MAX_COST, MAX_LABEL, MAX_PASSAGES, NONE, OPEN, OUT, SEARCHING,
-    UNSEEN,
+    is_blocked, Action, Graph, Head, Task, BLOCKED, FOUND, MAX_COST, MAX_LABEL, MAX_PASSAGES, NONE,
+    OPEN, OUT, SEARCHING, UNSEEN,
 };
 use crate::rows::{Independent, RowDesk, HELD, LABELS, MARKS, PHASE, ROW, VIAS};
 use crate::taskfile::MAX_FILE;
@@ -105,9 +105,11 @@ fn passages(rng: &mut Rng, n: usize) -> Vec<u32> {
         _ => rng.between(n, most),
     };
     let costs = rng.pick(&[0, 1, 2, 3, 20, 20, 1000, MAX_COST]);
+    let blocked_percent = rng.pick(&[0, 0, 10, 30, 70]);
     let mut passages = Vec::with_capacity(3 * count);
     for _ in 0..count {
         let cost = match rng.below(40) {
+            _ if rng.percent(blocked_percent) => BLOCKED,
             0 => MAX_COST,
             1 => 0,
             _ => rng.up_to(costs),
@@ -120,6 +122,7 @@ fn passages(rng: &mut Rng, n: usize) -> Vec<u32> {
 /// A table that opening accepts with these passages: all zero, uniform, or the
 /// distances, cut off at some height, of a graph with costs lowered and further
 /// passages added (the distances of the task itself where nothing is lowered).
+/// Blocked passages bind no estimate.
 fn estimates(rng: &mut Rng, n: usize, passages: &[u32]) -> Vec<u32> {
     match rng.below(6) {
         0 => vec![0; n * n],
@@ -134,18 +137,23 @@ fn uniform(n: usize, height: u32) -> Vec<u32> {
     table
 }
 
+fn unblocked(passages: &[u32]) -> impl Iterator<Item = &[u32]> {
+    let all = passages.chunks_exact(3);
+    all.filter(|passage| !is_blocked(passage))
+}
+
 fn lowest_cost(passages: &[u32]) -> u32 {
-    let others = passages.chunks_exact(3).filter(|p| p[0] != p[1]);
+    let others = unblocked(passages).filter(|p| p[0] != p[1]);
     others.map(|p| p[2]).min().unwrap_or(MAX_LABEL)
 }
 
 fn lowered_distances(rng: &mut Rng, n: usize, passages: &[u32]) -> Vec<u32> {
-    let highest = passages.chunks_exact(3).map(|p| p[2]).max().unwrap_or(9);
+    let highest = unblocked(passages).map(|p| p[2]).max().unwrap_or(9);
     let any_height = rng.up_to(MAX_LABEL);
     let height = rng.pick(&[MAX_LABEL, highest, 2 * highest, any_height]);
     let mut table = uniform(n, height);
     let keep_percent = rng.pick(&[100, 100, 50, 0]);
-    for passage in passages.chunks_exact(3) {
+    for passage in unblocked(passages) {
         let cost = match rng.percent(keep_percent) {
             true => passage[2],
             false => rng.up_to(passage[2]),
@@ -242,7 +250,7 @@ fn break_passage(rng: &mut Rng, task: &mut Task) {
     }
     let place = rng.below(task.passages.len());
     task.passages[place] = match place % 3 {
-        2 => rng.pick(&[MAX_COST + 1, u32::MAX]),
+        2 => rng.pick(&[MAX_COST + 1, 1 << 31, BLOCKED - 1, BLOCKED]),
         _ => rng.pick(&[n, 256, 65_536, u32::MAX]),
     };
 }
@@ -271,7 +279,10 @@ fn break_cost(rng: &mut Rng, task: &mut Task) {
     let [a, b, cost] = [0, 1, 2].map(|i| task.passages[first + i] as usize);
     let place = a.wrapping_mul(task.head.n).wrapping_add(b);
     if let Some(h) = task.estimates.get_mut(place).filter(|_| a != b) {
-        *h = cost as u32 + rng.pick(&[0, 1]);
+        *h = match cost as u32 {
+            BLOCKED => rng.pick(&[MAX_COST, MAX_COST + 1, MAX_LABEL]),
+            cost => cost + rng.pick(&[0, 1]),
+        };
     }
 }
 
@@ -294,12 +305,11 @@ fn break_triangle(rng: &mut Rng, task: &mut Task) {
 /// `eager_percent` is how readily a worker brings what it holds.
 pub fn call(rng: &mut Rng, row: &[u32], eager_percent: usize) -> (Action, usize) {
     let k = row[1] as usize;
+    let worker = rng.below(k.clamp(1, 32));
     if rng.percent(3) {
         let action = rng.pick(&[Action::Take, Action::Bring]);
-        let worker = rng.pick(&[k, k.wrapping_add(1), 31, 32, 255, 1 << 32, usize::MAX]);
-        return (action, worker);
+        return (action, bad_worker(rng, k, worker));
     }
-    let worker = rng.below(k.clamp(1, 32));
     let holds = row[HELD + worker] != u32::from(NONE);
     if rng.percent(3) {
         return (if holds { Action::Take } else { Action::Bring }, worker);
@@ -309,6 +319,14 @@ pub fn call(rng: &mut Rng, row: &[u32], eager_percent: usize) -> (Action, usize)
         (true, false) => (Action::Take, rng.below(k.clamp(1, 32))),
         (false, _) => (Action::Take, worker),
     }
+}
+
+/// A worker that is mostly none of k; also such as differ from a good one in a high
+/// bit alone.
+fn bad_worker(rng: &mut Rng, k: usize, good: usize) -> usize {
+    let high = rng.pick(&[8, 15, 16, 32, 63]);
+    let looks_good = good + (1 << high);
+    rng.pick(&[k, k + 1, 31, 32, 255, usize::MAX, looks_good, looks_good])
 }
 
 /// Calls by workers up to `highest`, chosen while the independent desk answers
@@ -370,8 +388,10 @@ fn lent_len(rng: &mut Rng, count: usize) -> usize {
 pub fn made_up(rng: &mut Rng) -> (Task, Vec<u32>) {
     let mut task = made_up_task(rng);
     let mut row = made_up_row(rng, &task);
-    if rng.percent(20) {
-        hold_back(rng, &mut task, &mut row);
+    match rng.below(100) {
+        0..=19 => hold_back(rng, &mut task, &mut row),
+        20..=34 => lead_on(rng, &mut task, &mut row),
+        _ => {}
     }
     if rng.percent(45) {
         for _ in 0..rng.pick(&[1, 1, 1, 2, 3]) {
@@ -494,10 +514,43 @@ fn link_back(rng: &mut Rng, row: &mut [u32], task: &Task) {
             }
             row[VIAS + to] = number as u32;
             if add_up {
-                let sum = u64::from(row[LABELS + passage[0] as usize]) + u64::from(passage[2]);
-                row[LABELS + to] = sum.min(u64::from(MAX_LABEL)) as u32;
+                row[LABELS + to] = far_label(row[LABELS + passage[0] as usize], passage[2]);
             }
         }
+    }
+}
+
+/// Makes a path as if it had been found: a chain of passages, blocked ones too,
+/// from the start to wherever it ends, which becomes the goal.
+fn lead_on(rng: &mut Rng, task: &mut Task, row: &mut [u32]) {
+    let mut state = task.head.start;
+    let mut met = vec![false; task.head.n];
+    row[PHASE] = u32::from(FOUND);
+    row[LABELS + state] = 0;
+    for _ in 0..rng.between(1, 8) {
+        met[state] = true;
+        let passages = task.passages.chunks_exact(3).enumerate();
+        let onward = passages.filter(|(_, p)| p[0] as usize == state && !met[p[1] as usize]);
+        let onward: Vec<_> = onward.collect();
+        if onward.is_empty() {
+            break;
+        }
+        let (number, passage) = rng.pick(&onward);
+        let to = passage[1] as usize;
+        row[VIAS + to] = number as u32;
+        row[LABELS + to] = far_label(row[LABELS + state], passage[2]);
+        state = to;
+    }
+    task.head.goal = state;
+    row[3] = state as u32;
+}
+
+/// Near label + cost, as far as labels go. Over a blocked passage it is the sum
+/// that 32 bits make of it, one below the near label, should a desk add so.
+fn far_label(near: u32, cost: u32) -> u32 {
+    match cost {
+        BLOCKED if near > 0 => near.wrapping_add(cost),
+        _ => near.saturating_add(cost).min(MAX_LABEL),
     }
 }
 
@@ -545,19 +598,43 @@ fn damage_slices(rng: &mut Rng, task: &mut Task) {
     }
 }
 
-/// A change to a machine whose path was found, for reading that path.
-pub fn damage_found(rng: &mut Rng, row: &mut [u32], task: &Task) {
+/// A change to a machine whose path was found, or to its task, for reading that
+/// path.
+pub fn damage_found(rng: &mut Rng, row: &mut [u32], task: &mut Task) {
     let n = task.head.n;
     let state = rng.below(n);
     let passages = task.passages.len() / 3;
-    match rng.below(7) {
+    match rng.below(10) {
         0 => row[VIAS + state] = rng.below(passages + 2) as u32,
         1 => row[VIAS + task.head.goal] = rng.pick(&[passages as u32, 65_535]),
         2 => row[LABELS + state] = row[LABELS + state].saturating_sub(1),
         3 => row[LABELS + state] += 1,
         4 => row[LABELS + task.head.start] += 1,
         5 => row[2 + rng.below(2)] = state as u32,
-        _ => row[MARKS + state] = rng.pick(&[0, 1, 3]),
+        6 => row[MARKS + state] = rng.pick(&[0, 1, 3]),
+        7 => block(row, task, state),
+        8 => block(row, task, task.head.goal),
+        _ => {
+            block(row, task, task.head.goal);
+            lower_goal(row, task);
+        }
+    }
+}
+
+/// Blocks the passage that a state came by, if there is one.
+fn block(row: &[u32], task: &mut Task, state: usize) {
+    let first = 3 * row[VIAS + state] as usize;
+    if let Some(cost) = task.passages.get_mut(first + 2) {
+        *cost = BLOCKED;
+    }
+}
+
+/// Makes the goal's label the sum that 32 bits make over the passage it came by.
+fn lower_goal(row: &mut [u32], task: &Task) {
+    let goal = task.head.goal;
+    let first = 3 * row[VIAS + goal] as usize;
+    if let Some(passage) = task.passages.get(first..first + 3) {
+        row[LABELS + goal] = far_label(row[LABELS + passage[0] as usize], passage[2]);
     }
 }
 

@@ -6,6 +6,7 @@ use crate::desk::{Action, Head, Reply, Task};
 use crate::maker;
 use crate::rows::{self, RowDesk, Shown, PRINT_ROOM, ROW};
 
+mod blocked;
 mod maps;
 mod morning;
 
@@ -43,7 +44,7 @@ pub fn failures(desk: &dyn RowDesk) -> Vec<String> {
 }
 
 pub fn all() -> impl Iterator<Item = &'static Run> {
-    [DOCUMENT_01, morning::RUNS, maps::RUNS]
+    [DOCUMENT_01, morning::RUNS, maps::RUNS, blocked::RUNS]
         .into_iter()
         .flatten()
 }

@@ -5,8 +5,8 @@
 use crate::compare::run_case;
 use crate::demand::{see_wait, shortest, Watch};
 use crate::desk::{
-    Action, Graph, Machine, Reply, Task, FINISHED, FOUND, MAX_LABEL, MAX_PASSAGES, NONE, OPEN, OUT,
-    UNSEEN,
+    Action, Graph, Machine, Reply, Task, BLOCKED, FINISHED, FOUND, MAX_COST, MAX_LABEL,
+    MAX_PASSAGES, NONE, OPEN, OUT, UNSEEN,
 };
 use crate::desks::Desks;
 use crate::maker::{self, Rng};
@@ -15,6 +15,7 @@ use crate::runs::{self, task_a};
 use crate::tally::Tally;
 use crate::taskfile::{self, Fault, MAX_FILE};
 
+mod blocked;
 mod map;
 mod morning;
 
@@ -36,8 +37,39 @@ fn changed(change: impl FnOnce(&mut Task)) -> Task {
 }
 
 #[test]
-fn runs_of_the_document() {
+fn runs_of_the_documents() {
     assert_eq!(runs::failures(&Independent), Vec::<String>::new());
+}
+
+/// Each run of the orders fails on one of these desks.
+#[test]
+fn runs_of_the_orders_can_fail() {
+    let wrongs = [
+        Wrong {
+            morning: |_, _, _, reply| reply ^ 1,
+            map: |_, _, counts| counts ^ 1,
+            map_spot: |spot| spot ^ 1,
+            print: |text, length| {
+                text[0] ^= 1;
+                length
+            },
+            ..RIGHT
+        },
+        Wrong {
+            cost: |cost| if cost == BLOCKED { 1 } else { cost },
+            ..RIGHT
+        },
+        Wrong {
+            cost: |cost| if cost > MAX_COST { BLOCKED } else { cost },
+            ..RIGHT
+        },
+    ];
+    let failures: Vec<_> = wrongs.iter().flat_map(|w| runs::failures(w)).collect();
+    for run in runs::all().filter(|run| run.name.starts_with("order ")) {
+        let begins = format!("run {}: ", run.name);
+        let fails = failures.iter().any(|failure| failure.starts_with(&begins));
+        assert!(fails, "run {} fails on none", run.name);
+    }
 }
 
 // ---- Opening ----
@@ -593,6 +625,10 @@ struct Wrong {
     map: fn(&mut [u32], &mut [u32], u64) -> u64,
     map_spot: fn(u32) -> u32,
     map_state: fn(u32) -> u32,
+    /// With the text.
+    print: fn(&mut [u8], usize) -> usize,
+    /// What it takes a passage's cost for, but in files.
+    cost: fn(u32) -> u32,
 }
 
 /// A stand-in with nothing wrong, to be changed.
@@ -602,23 +638,48 @@ const RIGHT: Wrong = Wrong {
     map: |_, _, counts| counts,
     map_spot: |spot| spot,
     map_state: |state| state,
+    print: |_, length| length,
+    cost: |cost| cost,
 };
+
+impl Wrong {
+    /// The passages as this desk takes them.
+    fn passages(&self, passages: &[u32]) -> Vec<u32> {
+        let mut passages = passages.to_vec();
+        for passage in passages.chunks_exact_mut(3) {
+            passage[2] = (self.cost)(passage[2]);
+        }
+        passages
+    }
+}
+
+/// A graph with other passages.
+fn with_passages<'a>(graph: Graph<'a>, passages: &'a [u32]) -> Graph<'a> {
+    Graph { passages, ..graph }
+}
 
 impl RowDesk for Wrong {
     fn open(&self, task: &Task, row: &mut [u32]) -> u64 {
-        Independent.open(task, row)
+        let mut task = task.clone();
+        task.passages = self.passages(&task.passages);
+        Independent.open(&task, row)
     }
     fn take(&self, row: &mut [u32], graph: Graph, worker: usize) -> u64 {
-        let reply = Independent.take(row, graph, worker);
+        let passages = self.passages(graph.passages);
+        let reply = Independent.take(row, with_passages(graph, &passages), worker);
         (self.take)(row, reply)
     }
     fn bring(&self, row: &mut [u32], graph: Graph, worker: usize) -> u64 {
-        Independent.bring(row, graph, worker)
+        let passages = self.passages(graph.passages);
+        Independent.bring(row, with_passages(graph, &passages), worker)
     }
     fn path(&self, row: &[u32], graph: Graph, buffer: &mut [u16], at: usize) -> u64 {
-        Independent.path(row, graph, buffer, at)
+        let passages = self.passages(graph.passages);
+        Independent.path(row, with_passages(graph, &passages), buffer, at)
     }
     fn morning(&self, row: &mut [u32], graph: Graph, events: &[u32], replies: &mut [u64]) -> u64 {
+        let passages = self.passages(graph.passages);
+        let graph = with_passages(graph, &passages);
         let reply = Independent.morning(row, graph, events, replies);
         (self.morning)(row, events, replies, reply)
     }
@@ -633,7 +694,8 @@ impl RowDesk for Wrong {
         (self.map_state)(Independent.map_state(text, row, column))
     }
     fn print(&self, file: &[u8], out: &mut [u8]) -> usize {
-        Independent.print(file, out)
+        let length = Independent.print(file, out);
+        (self.print)(out, length)
     }
 }
 

@@ -41,8 +41,10 @@ pub const RUNS: &[Run] = &[
                 Reply::Took(0),
                 Reply::Refused(11),
                 Reply::Refused(9),
+                Reply::Refused(9),
+                Reply::Refused(9),
             ];
-            let all = events("B0 T0 T0 T65535");
+            let all = events("B0 T0 T0 T65535 T257 B32768");
             expect_morning(desk, &mut row, &all, Reply::Done, &codes(&replies))?;
             let (last, _) = run(desk, &task_a(), "T0");
             expect_row(&row, &last)

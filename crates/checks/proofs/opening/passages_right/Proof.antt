@@ -1,6 +1,7 @@
 -- The invariant is that every passage below i is right, and the first that is not settles the check.
 use mathlib.Core.Path.{_≡_}
 use mathlib.Core.Bool.{true}
+use mathlib.Core.Logic.{⊎-elim}
 use Prim.Native.Nat.{_≤_, _-_}
 use lib.Dec.{ltb}
 use borrow.Author.Needs.{needs}
@@ -45,15 +46,18 @@ returns-2 c =
     (rw (near-low (c .before .before), ← c .before .far .ensures, le-ltb _ _ (c .if2 .taken)))
     (c .before .before .before .before .loop-test .taken)
 
+is-clear-requires : tie.Need-is-clear-requires Inv-loop μ-loop
+is-clear-requires c κs = search needs
+
 cost-requires : tie.Need-cost-requires Inv-loop μ-loop
 cost-requires c κs = search needs
 
 returns-3 : tie.Need-returns-3 Inv-loop μ-loop
 unfolding passagesRight
 returns-3 c =
-    all-stop _ (c .before .before .before .before .before .before .before .loop .i) _
-    (rw (near-low (c .before .before .before .before), far-low (c .before .before), ← c .before .cost .ensures, lt-leb _ _ (c .if3 .taken)))
-    (c .before .before .before .before .before .before .loop-test .taken)
+    all-stop _ (c .before .before .before .before .before .before .before .before .before .loop .i) _
+    (rw (near-low (c .before .before .before .before .before .before), far-low (c .before .before .before .before), ← c .before .before .before .is-clear .ensures, c .before .before .if3 .taken, ← c .before .cost .ensures, lt-leb _ _ (c .if4 .taken)))
+    (c .before .before .before .before .before .before .before .before .loop-test .taken)
 
 add-i : tie.Need-add-i Inv-loop μ-loop
 add-i c = search needs
@@ -66,7 +70,8 @@ loop-again c =
     let l = c .before .before .before .before .before .before .before .loop in (
       search needs,
       all-more _ (l .i) (l .inv .1)
-          (rw (near-low (c .before .before .before .before), far-low (c .before .before), ← c .before .cost .ensures, le-leb _ _ (c .if3 .left))),
+          (rw (near-low (c .before .before .before .before), far-low (c .before .before), ← c .before .is-clear .ensures)
+          (⊎-elim (λ w. rw (w .0 .taken, ← w .1 .ensures, le-leb _ _ (w .2 .left))) (λ w. rw (w .left)) (c .if3 .came))),
     )
 
 returns-4 : tie.Need-returns-4 Inv-loop μ-loop
@@ -84,6 +89,7 @@ passages-right-spec =
     returns
     far-requires
     returns-2
+    is-clear-requires
     cost-requires
     returns-3
     add-i

@@ -5,7 +5,7 @@ use native.Mathlib.Omega.{arith}
 use borrow.Author.Needs.{needs}
 use Prim.Native.Nat.{ℕ, _+_, _-_, _<_}
 use Rattle.desk.specs.Machine.{labelOf}
-use Rattle.desk.specs.Laws.{Run, run-zero, run-end, run-skip, run-kept, run-set}
+use Rattle.desk.specs.Laws.{Run, run-zero, run-end, run-skip, run-blocked, run-kept, run-set}
 use Rattle.desk.proofs.bring.sweep.Statement.{statement}
 use Rattle.desk.proofs.bring.sweep.Tie as tie
 
@@ -17,7 +17,7 @@ abbrev μ-loop : tie.MeasureT-loop
 
 -- the far end of a passage has a place in the rows
 far-in : (c : tie.After-far Inv-loop μ-loop) → c .far .result < 256
-far-in c = omega (arith, c .far .ensures, c .before .before .before .before .before .before .before .pre .fars (c .before .before .before .before .loop .i) (c .before .before .before .loop-test .taken))
+far-in c = omega (arith, c .far .ensures, c .before .before .before .before .before .before .before .before .before .pre .fars (c .before .before .before .before .before .before .loop .i) (c .before .before .before .before .before .loop-test .taken))
 
 mul-label : tie.Need-mul-label Inv-loop μ-loop
 mul-label c = search needs
@@ -31,6 +31,9 @@ loop-holds c = run-zero _ _ _
 near-requires : tie.Need-near-requires Inv-loop μ-loop
 near-requires c κs = search needs
 
+is-clear-requires : tie.Need-is-clear-requires Inv-loop μ-loop
+is-clear-requires c κs = search needs
+
 far-requires : tie.Need-far-requires Inv-loop μ-loop
 far-requires c κs = search needs
 
@@ -38,7 +41,10 @@ cost-requires : tie.Need-cost-requires Inv-loop μ-loop
 cost-requires c κs = search needs
 
 add-sum : tie.Need-add-sum Inv-loop μ-loop
-add-sum c = omega (arith, c .cost .ensures, c .before .before .before .before .before .before .before .before .pre .costs (c .before .before .before .before .before .loop .i) (c .before .before .before .before .loop-test .taken), c .before .before .before .before .before .before .before .before .pre .low)
+add-sum c =
+    let pre = c .before .before .before .before .before .before .before .before .before .before .pre in
+    let clear = sym (c .before .before .before .is-clear .ensures) ∙ c .before .before .if2 .taken in
+    omega (arith, c .cost .ensures, pre .costs (c .before .before .before .before .before .before .before .loop .i) (c .before .before .before .before .before .before .loop-test .taken) clear, pre .low)
 
 element-copy-out-lowers : tie.Need-element-copy-out-lowers Inv-loop μ-loop
 element-copy-out-lowers c = far-in (c .before)
@@ -84,12 +90,15 @@ loop-again c =
     let l = c .before .before .before .loop in
     let t = c .before .before .loop-test .taken in
     let f = c .before .near .ensures in
+    let plus : ℕ → ℕ = λ k. labelOf (c .before .before .before .before .before .before .args .t1) (c .before .before .before .before .before .before .args .s) + k in
     ⊎-elim
-    (λ w. rw (w .7, w .8) (run-set _ _ _ _ _ (l .i) (l .inv) t (sym f ∙ w .0 .taken) _ _ (w .1 .ensures) (ap (λ (k : ℕ). labelOf (c .before .before .before .before .before .before .args .t1) (c .before .before .before .before .before .before .args .s) + k) (w .2 .ensures)) (sym (w .5 .ensures) ∙ w .6 .taken)))
+    (λ w. rw (w .9, w .10) (run-set _ _ _ _ _ (l .i) (l .inv) t (sym f ∙ w .0 .taken) (sym (w .1 .ensures) ∙ w .2 .taken) _ _ (w .3 .ensures) (ap plus (w .4 .ensures)) (sym (w .7 .ensures) ∙ w .8 .taken)))
     (λ v. ⊎-elim
-    (λ w. rw (w .7, w .8) (run-kept _ _ _ _ _ (l .i) (l .inv) t (sym f ∙ w .0 .taken) _ _ (w .1 .ensures) (ap (λ (k : ℕ). labelOf (c .before .before .before .before .before .before .args .t1) (c .before .before .before .before .before .before .args .s) + k) (w .2 .ensures)) (sym (w .5 .ensures) ∙ w .6 .left)))
+    (λ w. rw (w .9, w .10) (run-kept _ _ _ _ _ (l .i) (l .inv) t (sym f ∙ w .0 .taken) (sym (w .1 .ensures) ∙ w .2 .taken) _ _ (w .3 .ensures) (ap plus (w .4 .ensures)) (sym (w .7 .ensures) ∙ w .8 .left)))
+    (λ u. ⊎-elim
+    (λ w. rw (w .3, w .4) (run-blocked _ _ _ _ _ (l .i) (l .inv) t (sym f ∙ w .0 .taken) (sym (w .1 .ensures) ∙ w .2 .left)))
     (λ w. rw (w .1, w .2) (run-skip _ _ _ _ _ (l .i) (l .inv) t (λ q. w .0 .left (f ∙ q))))
-    v) (c .if1 .came)
+    u) v) (c .if1 .came)
 
 returns : tie.Need-returns Inv-loop μ-loop
 returns c = let l = c .before .loop in run-end _ _ _ _ _ (l .i) (l .inv) (c .loop-test .left)
@@ -104,6 +113,7 @@ sweep-spec =
     element-copy-out-label
     loop-holds
     near-requires
+    is-clear-requires
     far-requires
     cost-requires
     add-sum

@@ -4,9 +4,9 @@ use Prim.Native.Nat.{_+_, _≤_, _-_}
 use native.Mathlib.Omega.{arith}
 use lib.ListN.{getD}
 use borrow.Author.Needs.{needs}
-use Rattle.laws.specs.Fill.{Filled, filled-zero}
+use Rattle.laws.specs.Fill.{Filled, filled-zero, filled-front}
 use Rattle.deskc.specs.Row.{part}
-use Rattle.deskc.specs.Laws.{row-bounds, filled-front, filled-whole}
+use Rattle.deskc.specs.Laws.{row-bounds, filled-whole}
 use Rattle.deskc.proofs.row.labels.Statement.{statement}
 use Rattle.deskc.proofs.row.labels.Tie as tie
 

@@ -1,13 +1,10 @@
 -- `fill::put_calls` fills the slice from its front: before turn i the first i places hold the first i calls.
 use Prim.Native.Nat.{_-_, _≤_}
-use Rattle.laws.specs.Fill.{Filled, filled-zero, filled-end}
-use Rattle.taskfile.specs.FillLaws.{filled-front}
+use Rattle.laws.specs.Fill.{Filled, filled-zero, filled-front, filled-end}
 use Rattle.taskfile.specs.Contents.{callOf, callPlace, callsOf}
 use borrow.Author.Needs.{needs}
 use Rattle.taskfile.proofs.fill.put_calls.Statement.{statement}
 use Rattle.taskfile.proofs.fill.put_calls.Tie as tie
-
--- `fill::put_calls` fills the slice from its front: before turn i the first i places hold the first i calls.
 
 abbrev Inv-loop : tie.InvT-loop
 Inv-loop file passages n count calls₀ from i₀ calls i = (i ≤ count) × Filled (λ i. callOf file (callPlace passages n i)) 0 calls₀ calls i
