@@ -1,20 +1,22 @@
 -- What a task, a passage slice, a table or a machine's rows have once they passed the checks, as facts for the callers.
-use mathlib.Core.Path.{_≡_, refl, _∙_}
+use mathlib.Core.Path.{_≡_, refl, sym, ap, _∙_}
 use mathlib.Core.Bool.{Bool, true, false, _&&_, _||_, not}
 use mathlib.Core.List.{List}
 use mathlib.Core.Logic.{⊎-elim}
-use Prim.Native.Nat.{ℕ, _*_, _%_, _≤_, _<_}
+use Prim.Native.Nat.{ℕ, _+_, _*_, _%_, _≤_, _<_}
 use native.Mathlib.Decide.{ℕ-discrete}
 use native.Mathlib.Omega.{arith}
-use lib.ListN.{length, getD}
+use lib.ListN.{length, getD, set, replicate, length-set, length-replicate, getD-replicate}
+use lib.Seq.{getD-set-same, getD-set-other}
 use lib.Dec.{ltb, leb, eqb}
-use borrow.Author.Tests.{ltb-true, leb-true, eqb-true}
+use borrow.Author.Tests.{ltb-true, leb-true, eqb-true, eq-eqb, ne-eqb}
 use Rattle.laws.specs.Truth.{and-left, and-right, or-either, provided, provided-kept}
+use Rattle.laws.specs.Count.{count-zero, count-yes, count-no, count-max}
 use Rattle.laws.specs.All.{all, all-at, all-stop}
 use Rattle.rule.specs.Task.{passageCount, near, far, cost, isClear, estimate, Whole}
 use Rattle.rule.specs.Marks.{isOut, none}
 use Rattle.checks.specs.Opening.{Task, sizesRight, endsRight, weightsRight, passageRight, passagesRight, rowRight, estimatesRight, earlyFault, fault, holds1, holds2, holds3, holds4, holds5, holds6, holds7}
-use Rattle.checks.specs.Fits.{workerRight, labelsRight, workersRight}
+use Rattle.checks.specs.Fits.{workerRight, labelsRight, workersRight, holders}
 
 -- what conditions 1 to 4 say, as facts
 pub record Right (t : Task) : Type 0 where
@@ -148,3 +150,36 @@ worker-holds mark held n k e w l z =
     (λ q. absurd (z (eqb-true s none q)))
     (λ q. (ltb-true s n (and-left (ltb s n) _ q), and-right (ltb s n) (isOut (getD mark s 0)) q))
     (or-either (eqb s none) (ltb s n && isOut (getD mark s 0)) (all-at (λ w. workerRight mark n (getD held w 0)) k w e l))
+
+-- what counting the holders of all states knows after w workers
+pub record Counted (held many : List ℕ) (w : ℕ) : Type 0 where
+  pub long : length many ≡ 256
+  pub each : (s : ℕ) → s < 256 → getD many s 0 ≡ holders held w s
+
+pub counted-zero : (held : List ℕ) → Counted held (replicate 256 0) 0
+unfolding holders
+counted-zero held = record { long = length-replicate {A = ℕ} 256 0; each = λ s l. getD-replicate 256 s 0 0 l ∙ sym (count-zero (λ w. eqb (getD held w 0) s)) }
+
+module _ (held many : List ℕ) (w : ℕ) (c : Counted held many w) where
+  -- the next worker holds a state that has a place
+  pub counted-more : (s : ℕ) → s ≡ getD held w 0 → s < 256 → Counted held (set many s (getD many s 0 + 1)) (w + 1)
+  unfolding holders
+  counted-more s e l = record { long = length-set many s _ ∙ c .long; each = λ x h. go x h (ℕ-discrete x s) }
+    where
+      go : (x : ℕ) → x < 256 → Dec (x ≡ s) → getD (set many s (getD many s 0 + 1)) x 0 ≡ holders held (w + 1) x
+      go x h (yes q) =
+          rw q (getD-set-same many s (getD many s 0 + 1) 0 (omega (arith, c .long)) ∙ ap (λ (k : ℕ). k + 1) (c .each s l) ∙ sym (count-yes (λ v. eqb (getD held v 0) s) w (eq-eqb _ s (sym e))))
+      go x h (no d) = getD-set-other many s x (getD many s 0 + 1) 0 d ∙ c .each x h ∙ sym (count-no (λ v. eqb (getD held v 0) x) w (ne-eqb _ x (λ q. d (sym (e ∙ q)))))
+
+  -- or a number that has none
+  pub counted-past : (s : ℕ) → s ≡ getD held w 0 → 256 ≤ s → Counted held many (w + 1)
+  unfolding holders
+  counted-past s e g = record { long = c .long; each = λ x h. c .each x h ∙ sym (count-no (λ v. eqb (getD held v 0) x) w (ne-eqb _ x (λ q. omega (arith, e, q)))) }
+
+  -- no count is above the workers seen
+  pub counted-low : (s : ℕ) → s < 256 → getD many s 0 ≤ w
+  unfolding holders
+  counted-low s l = omega (arith, c .each s l, count-max (λ v. eqb (getD held v 0) s) w)
+
+  pub counted-end : (k : ℕ) → w ≤ k → k ≤ w → Counted held many k
+  counted-end k l g = let q : w ≡ k = omega arith in rw q at c

@@ -1,7 +1,8 @@
 // The clauses of "Fits" on a machine's own numbers, each over the rows that it reads.
 ghost use mathlib.Core.Path.{_≡_};
 ghost use Prim.Native.Nat.{_≤_};
-ghost use Rattle.checks.specs.Fits.{marksRight, labelsRight, workerRight, workersRight, holders, heldOnce};
+ghost use Rattle.checks.specs.Fits.{marksRight, labelsRight, workerRight, workersRight, heldOnce};
+ghost use Rattle.checks.specs.Laws.{Counted};
 
 // Each state below n has one of the marks.
 pub fn marks_right(mark: &[u8; 256], n: usize) -> bool
@@ -59,15 +60,16 @@ pub fn workers_right<'a>(mark: &'a [u8; 256], held: &'a [u16; 32], n: usize, k: 
     true
 }
 
-// How many workers below k hold s.
-pub fn holders(held: &[u16; 32], k: usize, s: u16) -> usize
+// How many workers below k hold each state.
+pub fn holder_counts(held: &[u16; 32], k: usize) -> [u8; 256]
     requires { ⌜ k ≤ 32 ⌝ }
-    ensures { λ r. ⌜ r ≡ holders (now (held .entry)) k s ⌝ }
+    ensures { λ r. ⌜ Counted (now (held .entry)) r k ⌝ }
 {
-    let mut many: usize = 0;
+    let mut many = [0u8; 256];
     for w in 0..k {
-        if held[w] == s {
-            many += 1;
+        let s = rule::wide(held[w]);
+        if s < 256 {
+            many[s] += 1;
         }
     }
     many
@@ -78,9 +80,11 @@ pub fn held_once<'a>(mark: &'a [u8; 256], held: &'a [u16; 32], n: usize, k: usiz
     requires { ⌜ (n ≤ 256) × (k ≤ 32) ⌝ }
     ensures { λ r. ⌜ r ≡ heldOnce (now (mark .entry)) (now (held .entry)) n k ⌝ }
 {
+    // Counted once for all states, and not over all workers for each.
+    let many = holder_counts(held, k);
     for s in 0..n {
         if mark[s] == rule::OUT {
-            if holders(held, k, s as u16) != 1 {
+            if many[s] != 1 {
                 return false;
             }
         }
