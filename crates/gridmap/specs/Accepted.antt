@@ -1,19 +1,24 @@
 -- What is so of every map that is read: "Show once, over all maps, that opening refuses none of the resulting tasks for 4 to 7."
-use mathlib.Core.Path.{_≡_, _∙_}
-use mathlib.Core.Bool.{Bool, true, false}
+use mathlib.Core.Path.{_≡_, refl, _∙_}
+use mathlib.Core.Bool.{Bool, true, false, cond}
 use mathlib.Core.Logic.{_≢_}
 use mathlib.Core.List.{List}
 use Prim.Native.Nat.{ℕ, _*_, _≤_, _<_}
 use native.Mathlib.Omega.{arith}
-use lib.ListN.{length}
+use lib.ListN.{length, take}
+use lib.Dec.{eqb}
+use borrow.Author.Tests.{eqb-true}
 use Rattle.laws.specs.Truth.{provided}
+use Rattle.laws.specs.Part.{overlaid}
+use Rattle.laws.specs.Fill.{overlaid-front}
 use Rattle.rule.specs.Task.{passageCount, near, far, cost}
 use Rattle.checks.specs.Opening.{task, passagesRight, estimatesRight, passagesBound, detoursBound, holds1, holds2, holds3, fault}
+use Rattle.gridmap.specs.declared.Survey.the-variants.{Drawn}
 use Rattle.gridmap.specs.declared.Spot.the-variants.{At}
 use Rattle.gridmap.specs.Map.{Map, mapOf, placeOf, stateOf, stateCount}
 use Rattle.gridmap.specs.Passages.{passagesOf, passagesMany}
 use Rattle.gridmap.specs.Estimates.{estimatesOf}
-use Rattle.gridmap.specs.Reading.{mapFault, spotOf, stateAtSpot}
+use Rattle.gridmap.specs.Reading.{mapFault, roomy, Reading, unread, drawn, readMap, spotOf, stateAtSpot}
 use Rattle.gridmap.specs.HeadLaws.{height-most, width-most}
 use Rattle.gridmap.specs.CellLaws.{cell-state}
 use Rattle.gridmap.specs.EstimateLaws.{estimates-length}
@@ -69,6 +74,31 @@ map-opens text e k start goal pull excess =
     let r = map-right text e in
     let t = task (stateCount (mapOf text)) k start goal pull excess (passagesOf (mapOf text)) (estimatesOf (mapOf text)) in
     rw (r .four, r .five, r .six, r .seven) (within-three (holds1 t) (holds2 t) (holds3 t))
+
+-- the same of what the reader wrote: the counts of its reply, and the fronts of the two slices, are a task
+pub reader-opens : (text passages estimates : List ℕ) (n many : ℕ) → readMap text passages estimates .reply ≡ Drawn n many → (k start goal pull excess : ℕ)
+    → fault (task n k start goal pull excess (take (3 * many) (readMap text passages estimates .passages)) (take (n * n) (readMap text passages estimates .estimates))) ≤ 3
+unfolding readMap
+reader-opens text passages estimates n many q k start goal pull excess = go (eqb (mapFault text) 0) refl (roomy m (length passages) (length estimates)) q
+  where
+    m : Map
+    m = mapOf text
+
+    Opens : Reading → Type 0
+    Opens r = r .reply ≡ Drawn n many → fault (task n k start goal pull excess (take (3 * many) (r .passages)) (take (n * n) (r .estimates))) ≤ 3
+
+    front : (xs l : List ℕ) (w : ℕ) → length xs ≡ w → take w (overlaid 0 xs l) ≡ xs
+    front xs l w e = rw (← e) (overlaid-front xs l)
+
+    go : (b : Bool) → eqb (mapFault text) 0 ≡ b → (c : Bool) → Opens (cond b (provided c (unread passages estimates 34) (drawn m passages estimates)) (unread passages estimates (mapFault text)))
+    go true e true d =
+        let f = eqb-true (mapFault text) 0 e in
+        let r = map-right text f in
+        let a : stateCount m ≡ n = cc in
+        let b : passagesMany m ≡ many = cc in
+        rw (← a, ← b, front (passagesOf m) passages (3 * passagesMany m) (r .listed), front (estimatesOf m) estimates (stateCount m * stateCount m) (r .table)) (map-opens text f k start goal pull excess)
+    go true e false d = let z : _≡_ {A = ℕ} 0 1 = cc in absurd (omega arith)
+    go false e c d = let z : _≡_ {A = ℕ} 0 1 = cc in absurd (omega arith)
 
 -- no state loses its cell: from a state to its row and column and back, and from an open cell to its state and back
 pub state-spot : (text : List ℕ) (s row column : ℕ) → spotOf text s ≡ At row column → stateAtSpot text row column ≡ s
