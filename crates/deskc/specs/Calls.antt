@@ -33,11 +33,15 @@ openRow t row =
     provided (eqb (length row) rowLength) (unfit row)
     (record { code = codeOf (openingOf t .reply); row = packed (openingOf t .machine) })
 
-unfoldable pub takeRow : List ℕ → List ℕ → List ℕ → ℕ → Turn
-takeRow row passages estimates worker = provided (isRow row) (unfit row) (turned row (takeOf (unpacked row) passages estimates worker))
+-- a worker's call: on the machine that the row holds, where it holds one
+unfoldable pub turnOf : List ℕ → Answer → Turn
+turnOf row a = provided (isRow row) (unfit row) (turned row a)
 
-unfoldable pub bringRow : List ℕ → List ℕ → List ℕ → ℕ → Turn
-bringRow row passages estimates worker = provided (isRow row) (unfit row) (turned row (bringOf (unpacked row) passages estimates worker))
+abbrev pub takeRow : List ℕ → List ℕ → List ℕ → ℕ → Turn
+takeRow row passages estimates worker = turnOf row (takeOf (unpacked row) passages estimates worker)
+
+abbrev pub bringRow : List ℕ → List ℕ → List ℕ → ℕ → Turn
+bringRow row passages estimates worker = turnOf row (bringOf (unpacked row) passages estimates worker)
 
 -- path reading: the reply's number, and the buffer
 pub record Lines : Type 0 where

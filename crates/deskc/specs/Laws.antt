@@ -16,6 +16,10 @@ use Rattle.checks.specs.Opening.{Task, fault}
 use Rattle.checks.specs.Laws.{right, fault-none}
 use Rattle.desk.specs.declared.Machine.{Machine}
 use Rattle.desk.specs.Opening.{openingOf, openedMachine, blankMachine}
+use Rattle.desk.specs.declared.Reply.the-variants.{Refused}
+use Rattle.desk.specs.declared.Answer.{Answer}
+use Rattle.desk.specs.Reply.{codeOf}
+use Rattle.deskc.specs.Calls.{turnOf}
 use Rattle.deskc.specs.Row.{atMost, isRow, part, unpacked, changing, changed, packed}
 
 -- a list made of another's places is that list
@@ -144,3 +148,13 @@ changed-unpacked row e =
     let mark : overlaid 7 (part row 7 256 ++ (part row 263 256 ++ (part row 519 256 ++ part row 775 32))) row ≡ row =
     own-next 7 263 row (part row 7 256) _ (own-part row 7 256 (omega arith)) label (omega (arith, part-length row 7 256)) (omega arith) in
     own-next 6 7 row (getD row 6 0 ∷ []) (part row 7 256 ++ (part row 263 256 ++ (part row 519 256 ++ part row 775 32))) (sym (overlaid-one 6 row (getD row 6 0) (omega arith)) ∙ set-getD row 6 0) mark (omega arith) (omega arith)
+
+-- a worker's call over a row, by whether the row holds a machine
+pub turn-unfit : (row : List ℕ) (a : Answer) (code : ℕ) → isRow row ≡ false → code ≡ codeOf (Refused 8) → (code ≡ turnOf row a .code) × (row ≡ turnOf row a .row)
+unfolding turnOf
+turn-unfit row a code e q = (rw e q, rw e refl)
+
+pub turn-made : (row next : List ℕ) (given a : Answer) (code : ℕ) → isRow row ≡ true → given ≡ a → code ≡ codeOf (given .reply) → next ≡ changed row (given .machine)
+    → (code ≡ turnOf row a .code) × (next ≡ turnOf row a .row)
+unfolding turnOf
+turn-made row next given a code e g q n = (rw (e, ← g) q, rw (e, ← g) n)

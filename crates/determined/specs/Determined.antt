@@ -1,7 +1,9 @@
 -- Each contract determines its answer: two answers that it allows are equal, with every place of each lent buffer. The premises are the `ensures` clauses, word for word.
-use mathlib.Core.Path.{_≡_, sym, _∙_}
+use mathlib.Core.Path.{_≡_, sym, ap, _∙_}
 use mathlib.Core.List.{List}
-use Prim.Native.Nat.{ℕ}
+use Prim.Native.Nat.{ℕ, _<_}
+use native.Mathlib.Omega.{arith}
+use lib.Seq.{ext-getD}
 use Rattle.checks.specs.Opening.{Task}
 use Rattle.desk.specs.declared.Machine.{Machine}
 use Rattle.desk.specs.declared.Answer.{Answer}
@@ -12,6 +14,10 @@ use Rattle.desk.specs.Morning.{morningOf}
 use Rattle.desk.specs.Path.{pathOf}
 use Rattle.taskfile.specs.declared.Outcome.{Outcome}
 use Rattle.taskfile.specs.Contents.{readOf}
+use Rattle.checks.specs.Laws.{Counted}
+use Rattle.gridmap.specs.declared.Head.{Head}
+use Rattle.gridmap.specs.Map.{Map, mapOf}
+use Rattle.gridmap.specs.Laws.{mapWith}
 use Rattle.gridmap.specs.declared.Survey.{Survey}
 use Rattle.gridmap.specs.declared.Spot.{Spot}
 use Rattle.gridmap.specs.Reading.{readMap, spotOf, stateAtSpot}
@@ -83,6 +89,13 @@ report-determined file out r r′ b b′ e f e′ f′ = (same e e′, same f f�
 -- the functions that write text piece by piece have a record for a contract; it determines the buffer and the next place too
 pub put-determined : (at : ℕ) (xs l₀ l l′ : List ℕ) (r r′ : ℕ) → Put at xs l₀ l r → Put at xs l₀ l′ r′ → (l ≡ l′) × (r ≡ r′)
 put-determined at xs l₀ l l′ r r′ p p′ = (same (p .done) (p′ .done), same (p .next) (p′ .next))
+
+-- so do the record of counted holders, and what is said of a map's head
+pub counted-determined : (held many many′ : List ℕ) (k : ℕ) → Counted held many k → Counted held many′ k → many ≡ many′
+counted-determined held many many′ k p p′ = ext-getD 0 many many′ (same (p .long) (p′ .long)) (λ s l. let low : s < 256 = omega (arith, p .long) in same (p .each s low) (p′ .each s low))
+
+pub head-determined : (text : List ℕ) (h h′ : Head) → mapWith text h ≡ mapOf text → mapWith text h′ ≡ mapOf text → h ≡ h′
+head-determined text h h′ e e′ = ap (λ (m : Map). record { height = m .height; width = m .width; rows = m .rows }) (same e e′)
 
 -- the C interface: the reply's number, and every number of the row or the buffer
 pub open-row-determined : (t : Task) (row : List ℕ) (r r′ : ℕ) (b b′ : List ℕ) → r ≡ openRow t row .code → b ≡ openRow t row .row → r′ ≡ openRow t row .code → b′ ≡ openRow t row .row → (r ≡ r′) × (b ≡ b′)

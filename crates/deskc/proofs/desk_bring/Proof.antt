@@ -1,12 +1,11 @@
 -- `desk_bring`: a row that holds no machine is left as it was; else the machine that it holds brings, and what changed is written back.
-use mathlib.Core.Path.{_≡_, refl, sym, _∙_}
+use mathlib.Core.Path.{_≡_, sym, _∙_}
 use mathlib.Core.Bool.{true}
 use denote.Ref.{now}
 use borrow.Author.Tests.{not-true, not-false}
 use borrow.Author.Needs.{needs}
 use Rattle.deskc.specs.Row.{isRow}
-use Rattle.deskc.specs.Calls.{bringRow}
-use Rattle.deskc.specs.Laws.{row-bounds}
+use Rattle.deskc.specs.Laws.{row-bounds, turn-unfit, turn-made}
 use Rattle.deskc.proofs.desk_bring.Statement.{statement}
 use Rattle.deskc.proofs.desk_bring.Tie as tie
 
@@ -25,8 +24,7 @@ same-length : tie.Need-same-length
 same-length c = search needs
 
 returns : tie.Need-returns
-unfolding bringRow
-returns c = let e = sym (c .before .before .is-row .ensures) ∙ not-true _ (c .before .if1 .taken) in (rw e (c .unfit .ensures), rw e refl)
+returns c = turn-unfit _ _ _ (sym (c .before .before .is-row .ensures) ∙ not-true _ (c .before .if1 .taken)) (c .unfit .ensures)
 
 unpack-requires : tie.Need-unpack-requires
 unpack-requires c κs = fit (c .before)
@@ -44,13 +42,10 @@ same-length-2 : tie.Need-same-length-2
 same-length-2 c = search needs
 
 returns-2 : tie.Need-returns-2
-unfolding bringRow
 returns-2 c =
     let p = c .before .before .before in
     let t = p .before .before .before in
-    let u = t .before in
-    let e = fit (u .before .before) in
-    (rw (e, ← (u .unpack .ensures), ← (t .bring .ensures)) (c .code .ensures), rw (e, ← (u .unpack .ensures), ← (t .bring .ensures)) (p .put-changing .ensures))
+    turn-made _ _ _ _ _ (fit (t .before .before .before)) (rw (t .before .unpack .ensures) at (t .bring .ensures)) (c .code .ensures) (p .put-changing .ensures)
 
 pub desk-bring-spec : {M : Type 1} → statement M
 desk-bring-spec =
