@@ -14,7 +14,7 @@ use Rattle.argument.specs.Steps.{at-or, Deal, Touch, Advance, Finish, Lo
 use Rattle.argument.specs.StepMoves.{deal-moves, touch-moves, advance-moves, finish-moves, lose-moves}
 use Rattle.argument.specs.StepGrows.{deal-grows, touch-grows, advance-grows, finish-grows, lose-grows}
 
--- the invariant: the frontier's (S1 to S3), the chains (P), and that the goal was never dealt (S1). (F) and (H) are no part of it
+-- the invariant: the frontier's (S1 to S3), the chains (P), and that the goal was never dealt (S1). What each worker holds is no part of it
 pub record Good (g : Graph) (n E start goal count : ℕ) (v : View) : Type 0 where
   pub frontier : Frontier g n E start count v
   pub chained : Chained g start n v

@@ -1,4 +1,5 @@
--- What each step deals, loses and finishes, state by state, against the marks before and after it. To be summed over a run for order 12:
+-- Used by nothing yet: order 12 will sum it over a run.
+-- What each step deals, loses and finishes, state by state, against the marks before and after it. So that over a run
 -- dealt = finished + lost + out, a state is dealt at most once more than it is lost, and it is finished at most once.
 use mathlib.Core.Path.{_≡_, refl}
 use mathlib.Core.Logic.{_≢_}

@@ -13,7 +13,9 @@ use borrow.Author.Tests.{ltb-true, leb-true, eqb-true, eq-eqb, ne-eqb}
 use Rattle.laws.specs.Truth.{and-left, and-right, or-either, provided, provided-kept}
 use Rattle.laws.specs.Count.{count-zero, count-yes, count-no, count-max}
 use Rattle.laws.specs.All.{all, all-at, all-stop}
-use Rattle.rule.specs.Task.{passageCount, near, far, cost, isClear, estimate, Whole}
+use Rattle.rule.specs.Task.{passageCount, near, far, cost, isClear, estimate}
+use Rattle.rule.specs.Laws.{WholeTable}
+use Rattle.rule.specs.Refusals.{badSizes, badEnds, badWeights, badPassage, badEstimate, abovePassage, aboveDetour}
 use Rattle.rule.specs.Marks.{isOut, none}
 use Rattle.checks.specs.Opening.{Task, sizesRight, endsRight, weightsRight, passageRight, passagesRight, rowRight, estimatesRight, earlyFault, fault, holds1, holds2, holds3, holds4, holds5, holds6, holds7}
 use Rattle.checks.specs.Fits.{workerRight, labelsRight, workersRight, holders}
@@ -43,10 +45,10 @@ pub record Early (t : Task) : Type 0 where
 pub early : (t : Task) → earlyFault t ≡ 0 → Early t
 unfolding earlyFault
 early t e =
-    let a = provided-kept (holds1 t) 1 _ (λ q. omega arith) e in
-    let b = provided-kept (holds2 t) 2 _ (λ q. omega arith) (a .1) in
-    let c = provided-kept (holds3 t) 3 _ (λ q. omega arith) (b .1) in
-    let d = provided-kept (holds4 t) 4 0 (λ q. omega arith) (c .1) in
+    let a = provided-kept (holds1 t) badSizes _ (λ q. omega arith) e in
+    let b = provided-kept (holds2 t) badEnds _ (λ q. omega arith) (a .1) in
+    let c = provided-kept (holds3 t) badWeights _ (λ q. omega arith) (b .1) in
+    let d = provided-kept (holds4 t) badPassage 0 (λ q. omega arith) (c .1) in
     record { first = a .0; second = b .0; third = c .0; fourth = d .0 }
 
 pub right : (t : Task) → earlyFault t ≡ 0 → Right t
@@ -73,17 +75,17 @@ right t e =
       listed = h .fourth;
     }
 
-pub whole : (t : Task) → Right t → Whole (t .estimates) (t .n)
+pub whole : (t : Task) → Right t → WholeTable (t .estimates) (t .n)
 whole t r = record { states = r .states; table = r .table }
 
 -- where 1 to 4 apply to nothing, 5 to 7 decide
-pub fault-late : (t : Task) → earlyFault t ≡ 0 → fault t ≡ provided (holds5 t) 5 (provided (holds6 t) 6 (provided (holds7 t) 7 0))
+pub fault-late : (t : Task) → earlyFault t ≡ 0 → fault t ≡ provided (holds5 t) badEstimate (provided (holds6 t) abovePassage (provided (holds7 t) aboveDetour 0))
 unfolding fault
 fault-late t e = let h = early t e in rw (h .first, h .second, h .third, h .fourth)
 
 -- the ladder of 1 to 4, over what stands past it
 abbrev ladder : Bool → Bool → Bool → Bool → ℕ → ℕ
-ladder a b c d late = provided a 1 (provided b 2 (provided c 3 (provided d 4 late)))
+ladder a b c d late = provided a badSizes (provided b badEnds (provided c badWeights (provided d badPassage late)))
 
 -- where it stops, it doesn't depend on that
 ladder-stops : (a b c d : Bool) (late : ℕ) → (ladder a b c d 0 ≡ 0 → ⊥) → ladder a b c d 0 ≡ ladder a b c d late

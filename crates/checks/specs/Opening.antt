@@ -7,6 +7,7 @@ use lib.Dec.{ltb, leb, eqb}
 use Rattle.laws.specs.Truth.{provided}
 use Rattle.laws.specs.All.{all}
 use Rattle.rule.specs.Task.{passageCount, near, far, cost, isClear, estimate}
+use Rattle.rule.specs.Refusals.{badSizes, badEnds, badWeights, badPassage, badEstimate, abovePassage, aboveDetour}
 
 -- what a task is made of
 pub record Task : Type 0 where
@@ -91,18 +92,24 @@ holds6 t = passagesBound (t .passages) (t .estimates) (t .n)
 abbrev pub holds7 : Task → Bool
 holds7 t = detoursBound (t .estimates) (t .n)
 
--- "Checked in this order; the first that applies is given": the number of the first broken condition of 1 to 4, or 0
-unfoldable pub earlyFault : Task → ℕ
-earlyFault t = provided (holds1 t) 1 (provided (holds2 t) 2 (provided (holds3 t) 3 (provided (holds4 t) 4 0)))
+-- "Checked in this order; the first that applies is given": the first of 1 to 4 that applies, or else what the later checks come to
+abbrev pub earlyOr : Task → ℕ → ℕ
+earlyOr t late =
+    provided (holds1 t) badSizes
+    (provided (holds2 t) badEnds
+    (provided (holds3 t) badWeights
+    (provided (holds4 t) badPassage
+    late)))
 
--- the same of 1 to 7: what opening refuses with, or 0 where it accepts
+-- the first of 1 to 4 that applies, or 0: what "Fits" asks of a task
+unfoldable pub earlyFault : Task → ℕ
+earlyFault t = earlyOr t 0
+
+-- the first of 1 to 7 that applies: what opening refuses with, or 0 where it accepts
 unfoldable pub fault : Task → ℕ
 fault t =
-    provided (holds1 t) 1
-    (provided (holds2 t) 2
-    (provided (holds3 t) 3
-    (provided (holds4 t) 4
-    (provided (holds5 t) 5
-    (provided (holds6 t) 6
-    (provided (holds7 t) 7
-    0))))))
+    earlyOr t
+    (provided (holds5 t) badEstimate
+    (provided (holds6 t) abovePassage
+    (provided (holds7 t) aboveDetour
+    0)))

@@ -2,7 +2,7 @@
 ghost use mathlib.Core.Path.{_≡_};
 ghost use mathlib.Core.Bool.{true};
 ghost use Prim.Native.Nat.{_<_};
-ghost use Rattle.rule.specs.Task.{Whole};
+ghost use Rattle.rule.specs.Laws.{WholeTable};
 ghost use Rattle.checks.specs.Opening.{
   task,
   sizesRight,
@@ -18,6 +18,7 @@ ghost use Rattle.checks.specs.Opening.{
   earlyFault,
   fault,
 };
+use rule::refusals;
 
 // 1: the sizes, of the task and of the two slices.
 pub fn sizes_right(n: usize, k: usize, passages: usize, estimates: usize) -> bool
@@ -90,7 +91,7 @@ pub fn passages_right(passages: &[u32], n: usize) -> bool
 
 // One row of 5: no estimate is too large, and the one on the diagonal is 0.
 pub fn row_right(estimates: &[u32], n: usize, a: usize) -> bool
-    requires { ⌜ Whole (now estimates) n × (a < n) ⌝ }
+    requires { ⌜ WholeTable (now estimates) n × (a < n) ⌝ }
     ensures { λ r. ⌜ r ≡ rowRight (now (estimates .entry)) n a ⌝ }
 {
     for b in 0..n {
@@ -103,7 +104,7 @@ pub fn row_right(estimates: &[u32], n: usize, a: usize) -> bool
 
 // 5: every row.
 pub fn estimates_right(estimates: &[u32], n: usize) -> bool
-    requires { ⌜ Whole (now estimates) n ⌝ }
+    requires { ⌜ WholeTable (now estimates) n ⌝ }
     ensures { λ r. ⌜ r ≡ estimatesRight (now (estimates .entry)) n ⌝ }
 {
     for a in 0..n {
@@ -116,7 +117,7 @@ pub fn estimates_right(estimates: &[u32], n: usize) -> bool
 
 // 6: no estimate is above the cost of a passage that isn't blocked.
 pub fn passages_bound(passages: &[u32], estimates: &[u32], n: usize) -> bool
-    requires { ⌜ Whole (now estimates) n × (passagesRight (now passages) n ≡ true) ⌝ }
+    requires { ⌜ WholeTable (now estimates) n × (passagesRight (now passages) n ≡ true) ⌝ }
     ensures { λ r. ⌜ r ≡ passagesBound (now (passages .entry)) (now (estimates .entry)) n ⌝ }
 {
     let count = passages.len() / 3;
@@ -135,7 +136,7 @@ pub fn passages_bound(passages: &[u32], estimates: &[u32], n: usize) -> bool
 
 // The detours from a by b, of 7: no estimate from a is above the two by way of b.
 pub fn detours_by(estimates: &[u32], n: usize, a: usize, b: usize) -> bool
-    requires { ⌜ (Whole (now estimates) n × (estimatesRight (now estimates) n ≡ true)) × ((a < n) × (b < n)) ⌝ }
+    requires { ⌜ (WholeTable (now estimates) n × (estimatesRight (now estimates) n ≡ true)) × ((a < n) × (b < n)) ⌝ }
     ensures { λ r. ⌜ r ≡ detoursBy (now (estimates .entry)) n a b ⌝ }
 {
     let to_b = rule::estimate(estimates, n, a, b);
@@ -151,7 +152,7 @@ pub fn detours_by(estimates: &[u32], n: usize, a: usize, b: usize) -> bool
 
 // All detours from a, of 7.
 pub fn detours_from(estimates: &[u32], n: usize, a: usize) -> bool
-    requires { ⌜ (Whole (now estimates) n × (estimatesRight (now estimates) n ≡ true)) × (a < n) ⌝ }
+    requires { ⌜ (WholeTable (now estimates) n × (estimatesRight (now estimates) n ≡ true)) × (a < n) ⌝ }
     ensures { λ r. ⌜ r ≡ detoursFrom (now (estimates .entry)) n a ⌝ }
 {
     for b in 0..n {
@@ -164,7 +165,7 @@ pub fn detours_from(estimates: &[u32], n: usize, a: usize) -> bool
 
 // 7: all detours.
 pub fn detours_bound(estimates: &[u32], n: usize) -> bool
-    requires { ⌜ Whole (now estimates) n × (estimatesRight (now estimates) n ≡ true) ⌝ }
+    requires { ⌜ WholeTable (now estimates) n × (estimatesRight (now estimates) n ≡ true) ⌝ }
     ensures { λ r. ⌜ r ≡ detoursBound (now (estimates .entry)) n ⌝ }
 {
     for a in 0..n {
@@ -189,16 +190,16 @@ pub fn early_fault(
     ensures { λ r. ⌜ r ≡ earlyFault (task n k start goal pull excess (now (passages .entry)) (now (estimates .entry))) ⌝ }
 {
     if !sizes_right(n, k, passages.len(), estimates.len()) {
-        return 1;
+        return refusals::BAD_SIZES;
     }
     if !ends_right(n, start, goal) {
-        return 2;
+        return refusals::BAD_ENDS;
     }
     if !weights_right(pull, excess) {
-        return 3;
+        return refusals::BAD_WEIGHTS;
     }
     if !passages_right(passages, n) {
-        return 4;
+        return refusals::BAD_PASSAGE;
     }
     0
 }
@@ -221,13 +222,13 @@ pub fn fault(
         return early;
     }
     if !estimates_right(estimates, n) {
-        return 5;
+        return refusals::BAD_ESTIMATE;
     }
     if !passages_bound(passages, estimates, n) {
-        return 6;
+        return refusals::ABOVE_PASSAGE;
     }
     if !detours_bound(estimates, n) {
-        return 7;
+        return refusals::ABOVE_DETOUR;
     }
     0
 }

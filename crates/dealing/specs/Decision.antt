@@ -3,18 +3,9 @@ use mathlib.Core.Bool.{_&&_, not, cond}
 use Prim.Native.Nat.{ℕ}
 use lib.Dec.{ltb}
 use Rattle.rule.specs.Marks.{out}
-use Rattle.dealing.specs.declared.Choice.{Choice}
-use Rattle.dealing.specs.declared.Choice.the-variants.{Safe, Stopped, NoneOpen}
 use Rattle.dealing.specs.declared.Decision.{Decision}
 use Rattle.dealing.specs.declared.Decision.the-variants.{Found, NoPath, Deal, Stuck, Wait}
 use Rattle.dealing.specs.Board.{Board, labelAt, firstDependence, safe, choice, foremost, anyOpen, anyOut, firstMarked}
-
--- what going through the open states comes to: the safe one that is dealt; or none is safe, and the test of the smallest-key one stopped at a state; or nothing is open
-unfoldable pub choose : ℕ → ℕ → Board → Choice
-choose goal pull b =
-    cond (ltb (choice goal pull b) (b .n)) (Safe (choice goal pull b))
-    (cond (anyOpen b) (Stopped (firstDependence b (foremost goal pull b)))
-    NoneOpen)
 
 -- order 1: "with something open, the lowest-numbered state that the smallest-key open state depends on (lowest number among equal keys); with nothing open, the lowest-numbered out state"
 unfoldable pub waitedFor : ℕ → ℕ → Board → ℕ

@@ -12,10 +12,18 @@ use Rattle.laws.specs.First.{first, first-found, first-at, first-end, first-le,
 use Rattle.laws.specs.Least.{Best, best-zero, best-skip, best-lost, best-won, best-end, least-passes, least-below, least-nothing}
 use Rattle.rule.specs.Marks.{waiting, out, isOpen}
 use Rattle.rule.specs.Rule.{holdsBack, keyOf}
+use Rattle.dealing.specs.declared.Choice.{Choice}
 use Rattle.dealing.specs.declared.Choice.the-variants.{Safe, Stopped, NoneOpen}
 use Rattle.dealing.specs.declared.Decision.the-variants.{Found, NoPath, Deal, Stuck, Wait}
 use Rattle.dealing.specs.Board.{Board, markAt, labelAt, h, dependsOn, firstDependence, safe, key, choice, foremost, anyOpen, anyOut, firstMarked}
-use Rattle.dealing.specs.Decision.{choose, waitedFor, decision}
+use Rattle.dealing.specs.Decision.{waitedFor, decision}
+
+-- what going through the open states comes to: the safe one that is dealt; or none is safe, and the test of the smallest-key one stopped at a state; or nothing is open
+unfoldable pub choose : ℕ → ℕ → Board → Choice
+choose goal pull b =
+    cond (ltb (choice goal pull b) (b .n)) (Safe (choice goal pull b))
+    (cond (anyOpen b) (Stopped (firstDependence b (foremost goal pull b)))
+    NoneOpen)
 
 -- whether s depends on t, where the test's estimate g stands in a local
 module _ (b : Board) (s t : ℕ) where

@@ -2,9 +2,10 @@
 // mark and label with the table of estimates, and changes nothing.
 ghost use mathlib.Core.Path.{_≡_};
 ghost use Prim.Native.Nat.{_≤_, _<_};
-ghost use Rattle.rule.specs.Task.{Whole};
+ghost use Rattle.rule.specs.Laws.{WholeTable};
 ghost use Rattle.dealing.specs.Board.{board, firstDependence, firstMarked};
-ghost use Rattle.dealing.specs.Decision.{choose, decision};
+ghost use Rattle.dealing.specs.Decision.{decision};
+ghost use Rattle.dealing.specs.Laws.{choose};
 
 // The five steps of Take, in their order, with what each names.
 pub enum Decision {
@@ -32,7 +33,7 @@ pub fn first_dependence<'a>(
     excess: u16,
     s: usize,
 ) -> usize
-    requires { ⌜ Whole (now estimates) n × (s < n) ⌝ }
+    requires { ⌜ WholeTable (now estimates) n × (s < n) ⌝ }
     ensures { λ r. ⌜ r ≡ firstDependence (board n excess (now (estimates .entry)) (now (mark .entry)) (now (label .entry))) s ⌝ }
 {
     let label_s = label[s];
@@ -58,15 +59,15 @@ pub fn choose<'a>(
     goal: usize,
     pull: u16,
 ) -> Choice
-    requires { ⌜ Whole (now estimates) n × (goal < n) ⌝ }
+    requires { ⌜ WholeTable (now estimates) n × (goal < n) ⌝ }
     ensures { λ r. ⌜ r ≡ choose goal pull (board n excess (now (estimates .entry)) (now (mark .entry)) (now (label .entry))) ⌝ }
 {
     // The safe state that leads, and its key.
     let mut best = n;
-    let mut least: u64 = 0;
+    let mut least: u64 = 18446744073709551615;
     // While none is safe: the open state that leads, its key, and where its test stopped.
     let mut front = n;
-    let mut ahead: u64 = 0;
+    let mut ahead: u64 = 18446744073709551615;
     let mut stop = n;
     let mut next = 0;
     'candidates: while next < n {
@@ -102,13 +103,13 @@ pub fn choose<'a>(
         best = s;
         least = key;
     }
-    if best != n {
-        return Choice::Safe(best);
+    if best == n {
+        if front != n {
+            return Choice::Stopped(stop);
+        }
+        return Choice::NoneOpen;
     }
-    if front != n {
-        return Choice::Stopped(stop);
-    }
-    Choice::NoneOpen
+    Choice::Safe(best)
 }
 
 // The lowest state below n with this mark, or n.
@@ -134,7 +135,7 @@ pub fn decide<'a>(
     goal: usize,
     pull: u16,
 ) -> Decision
-    requires { ⌜ Whole (now estimates) n × (goal < n) ⌝ }
+    requires { ⌜ WholeTable (now estimates) n × (goal < n) ⌝ }
     ensures { λ r. ⌜ r ≡ decision goal pull (board n excess (now (estimates .entry)) (now (mark .entry)) (now (label .entry))) ⌝ }
 {
     if mark[goal] == rule::OPEN {

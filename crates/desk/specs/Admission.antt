@@ -4,6 +4,7 @@ use mathlib.Core.List.{List}
 use Prim.Native.Nat.{ℕ}
 use lib.Dec.{ltb, eqb}
 use Rattle.laws.specs.Truth.{provided}
+use Rattle.rule.specs.Refusals.{unfit, noWorker, notSearching, wrongHands}
 use Rattle.desk.specs.declared.Machine.{Machine}
 use Rattle.desk.specs.declared.Answer.{Answer}
 use Rattle.desk.specs.Reply.{refused}
@@ -12,16 +13,8 @@ use Rattle.desk.specs.Fits.{fits}
 -- 8 "task or machine doesn't fit"; 9 "worker number not below k"; 10 "phase isn't 0"; 11 is the call's own: `ready` says what it asks of the worker's hands
 unfoldable pub admitted : Machine → List ℕ → List ℕ → ℕ → Bool → Answer → Answer
 admitted m passages estimates worker ready call =
-    provided (fits m passages estimates) (refused m 8)
-    (provided (ltb worker (m .k)) (refused m 9)
-    (provided (eqb (m .phase) 0) (refused m 10)
-    (provided ready (refused m 11)
+    provided (fits m passages estimates) (refused m unfit)
+    (provided (ltb worker (m .k)) (refused m noWorker)
+    (provided (eqb (m .phase) 0) (refused m notSearching)
+    (provided ready (refused m wrongHands)
     call)))
-
--- the first of 8, 9 and 10 that applies, or 0
-unfoldable pub callFault : Machine → List ℕ → List ℕ → ℕ → ℕ
-callFault m passages estimates worker =
-    provided (fits m passages estimates) 8
-    (provided (ltb worker (m .k)) 9
-    (provided (eqb (m .phase) 0) 10
-    0))

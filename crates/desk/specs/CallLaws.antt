@@ -14,6 +14,7 @@ use Rattle.laws.specs.Truth.{provided}
 use Rattle.laws.specs.Part.{overlaid}
 use Rattle.laws.specs.Put.{Put, put-none, put-next, put-one}
 use Rattle.laws.specs.Map.{map-append}
+use Rattle.rule.specs.Refusals.{shortRow, noEvent}
 use Rattle.desk.specs.declared.Machine.{Machine}
 use Rattle.desk.specs.declared.Reply.{Reply}
 use Rattle.desk.specs.declared.Reply.the-variants.{Opened, Took, Brought, Found, NoPath, Wait, Read, Refused, Done}
@@ -116,7 +117,7 @@ pub morning-room : (events : List ℕ) (places : ℕ) → morningFault events pl
 unfolding morningFault
 morning-room events places = go (leb (length events) places) refl
   where
-    go : (b : Bool) → leb (length events) places ≡ b → _≡_ {A = ℕ} (provided b 16 (provided (eventsRight events) 18 0)) 0 → length events ≤ places
+    go : (b : Bool) → leb (length events) places ≡ b → _≡_ {A = ℕ} (provided b shortRow (provided (eventsRight events) noEvent 0)) 0 → length events ≤ places
     go true e z = leb-true (length events) places e
     go false e z = absurd (omega arith)
 
@@ -124,16 +125,6 @@ module _ (m : Machine) (passages estimates events row : List ℕ) (number : ℕ)
   pub morning-refused : (number ≡ 0 → ⊥) → morningOf m passages estimates events row ≡ record { given = refused m number; row = row }
   unfolding morningOf
   morning-refused n = rw (← q, ne-eqb number 0 n)
-
-  pub morning-clear : morningOf m passages estimates events row .given .reply ≡ Done → number ≡ 0
-  morning-clear d = go (ℕ-discrete number 0)
-    where
-      go : Dec (number ≡ 0) → number ≡ 0
-      go (yes z) = z
-      go (no n) =
-          let e : Refused number ≡ Done = sym (ap (λ (o : Morning). o .given .reply) (morning-refused n)) ∙ d in
-          let z : _≡_ {A = ℕ} 0 1 = cc in
-          absurd (omega arith)
 
   pub morning-served : number ≡ 0
       → morningOf m passages estimates events row ≡ record {

@@ -1,18 +1,19 @@
 -- What the inner functions of the calls ask, what a machine that fits gives them, and what Bring's loop knows.
-use mathlib.Core.Path.{_≡_, refl, sym, ap, subst⁻¹, _∙_}
-use mathlib.Core.Bool.{Bool, true, false}
-use mathlib.Core.List.{List, _++_}
+use mathlib.Core.Path.{_≡_, refl, sym, ap, _∙_}
+use mathlib.Core.Bool.{Bool, true, false, not}
+use mathlib.Core.List.{List, [], _++_}
 use Prim.Native.Nat.{ℕ, _+_, _-_, _≤_, _<_}
 use native.Mathlib.Omega.{arith}
 use lib.ListN.{length, getD, drop}
-use lib.Dec.{ltb, eqb}
-use borrow.Author.Tests.{eqb-true, ltb-true, eq-eqb, ne-eqb, lt-ltb, le-leb, lt-leb}
+use lib.Dec.{ltb, leb, eqb}
+use borrow.Author.Tests.{eqb-true, eqb-false, ltb-true, leb-true, not-true, eq-eqb, ne-eqb, lt-ltb, le-leb, lt-leb}
 use borrow.Rule.Slice.PartMut.{midOf, putMid}
-use Rattle.laws.specs.Truth.{and-left, and-right, provided}
+use Rattle.laws.specs.Truth.{and-left, and-right, provided, provided-either}
 use Rattle.laws.specs.Fold.{fold, fold-zero, fold-more}
 use Rattle.laws.specs.Part.{overlaid, put-overlaid}
 use Rattle.rule.specs.Task.{passageCount, near, far, cost, isClear}
 use Rattle.rule.specs.Marks.{none}
+use Rattle.rule.specs.Refusals.{unfit, noWorker, notSearching, wrongHands, nothingOut, notFound, brokenTrail, shortBuffer}
 use Rattle.rule.specs.Rule.{lowers}
 use Rattle.checks.specs.Opening.{Task, earlyFault, fault}
 use Rattle.checks.specs.Fits.{phaseRight, marksRight, labelsRight, workersRight}
@@ -22,23 +23,30 @@ use Rattle.dealing.specs.Decision.{decision}
 use Rattle.dealing.specs.Laws.{deal-in, wait-in}
 use Rattle.dealing.specs.declared.Decision.{Decision}
 use Rattle.dealing.specs.declared.Decision.the-variants.{Found, NoPath, Deal, Stuck, Wait}
-use Rattle.trail.specs.Trail.{pathLength, path, statesBack}
-use Rattle.trail.specs.Laws.{Inside, Followed, path-followed, states-length}
+use Rattle.trail.specs.Trail.{path}
+use Rattle.trail.specs.Laws.{Inside, Followed, statesBack, path-followed, path-states}
 use Rattle.desk.specs.declared.Machine.{Machine}
 use Rattle.desk.specs.declared.Reply.the-variants.{Read}
 use Rattle.desk.specs.Machine.{taskOf, trailOf, labelOf, heldBy}
 use Rattle.desk.specs.declared.Answer.{Answer}
 use Rattle.desk.specs.Reply.{answer, refused}
 use Rattle.desk.specs.Fits.{fits}
-use Rattle.desk.specs.Admission.{admitted, callFault}
+use Rattle.desk.specs.Admission.{admitted}
 use Rattle.desk.specs.Bring.{swept, labelled, applyPassage, sweepOf}
-use Rattle.desk.specs.Path.{pathOf, unread}
+use Rattle.desk.specs.Path.{PathReading, pathRefused, pathOf}
 
 -- a task that opening accepts starts at a place of the rows
 pub start-in : (t : Task) → fault t ≡ 0 → t .start < 256
 start-in t e =
     let r = right t (fault-none t e) in
     omega (arith, r .start-in, r .states)
+
+-- a machine whose rows are as long as their types say
+pub record Sized (m : Machine) : Type 0 where
+  pub marks : length (m .mark) ≡ 256
+  pub labels : length (m .label) ≡ 256
+  pub vias : length (m .via) ≡ 256
+  pub workers : length (m .held) ≡ 32
 
 -- a machine that fits, as facts
 pub record Fitting (m : Machine) (passages estimates : List ℕ) : Type 0 where
@@ -59,6 +67,14 @@ fitting m passages estimates e =
       workers = and-left _ _ e₄;
     }
 
+-- the first of 8, 9 and 10 that applies, or 0
+unfoldable pub callFault : Machine → List ℕ → List ℕ → ℕ → ℕ
+callFault m passages estimates worker =
+    provided (fits m passages estimates) unfit
+    (provided (ltb worker (m .k)) noWorker
+    (provided (eqb (m .phase) 0) notSearching
+    0))
+
 -- what is known once none of 8, 9 and 10 applies
 pub record Admitted (m : Machine) (passages estimates : List ℕ) (worker : ℕ) : Type 0 where
   pub fit : fits m passages estimates ≡ true
@@ -67,7 +83,7 @@ pub record Admitted (m : Machine) (passages estimates : List ℕ) (worker : ℕ)
 
 -- the ladder of 8, 9 and 10 over what the three conditions come to
 abbrev ladder : Bool → Bool → Bool → ℕ
-ladder a b c = provided a 8 (provided b 9 (provided c 10 0))
+ladder a b c = provided a unfit (provided b noWorker (provided c notSearching 0))
 
 ladder-clear : (a b c : Bool) → ladder a b c ≡ 0 → (a ≡ true) × ((b ≡ true) × (c ≡ true))
 ladder-clear true true true e = (refl, (refl, refl))
@@ -89,13 +105,13 @@ module _ (m : Machine) (passages estimates : List ℕ) (worker : ℕ) where
     turned-away = go (fits m passages estimates) (ltb worker (m .k)) (eqb (m .phase) 0)
       where
         go : (a b c : Bool) → (ladder a b c ≡ 0 → ⊥)
-            → refused m (ladder a b c) ≡ provided a (refused m 8) (provided b (refused m 9) (provided c (refused m 10) (provided ready (refused m 11) call)))
+            → refused m (ladder a b c) ≡ provided a (refused m unfit) (provided b (refused m noWorker) (provided c (refused m notSearching) (provided ready (refused m wrongHands) call)))
         go false b c n = refl
         go true false c n = refl
         go true true false n = refl
         go true true true n = absurd (n refl)
 
-    pub not-ready : Admitted m passages estimates worker → ready ≡ false → refused m 11 ≡ admitted m passages estimates worker ready call
+    pub not-ready : Admitted m passages estimates worker → ready ≡ false → refused m wrongHands ≡ admitted m passages estimates worker ready call
     unfolding admitted
     not-ready a r = rw (a .fit, lt-ltb worker (m .k) (a .worker-in), eq-eqb (m .phase) 0 (a .searching), r)
 
@@ -187,22 +203,35 @@ module _ (m₀ m : Machine) (passages : List ℕ) (s many i : ℕ) (r : Run m₀
 
 -- path reading, by what it finds
 module _ (m : Machine) (passages estimates buffer : List ℕ) (at : ℕ) where
-  pub path-unfit : fits m passages estimates ≡ false → pathOf m passages estimates buffer at ≡ unread m buffer 8
+  -- what holds of every refusal, which is never 12, and of a path that the buffer has room for, holds of whatever is read
+  pub path-either : (P : PathReading → Type 0) → ((number : ℕ) → (number ≡ nothingOut → ⊥) → P (pathRefused m buffer number))
+      → ((length (path (trailOf m passages)) ≡ 0 → ⊥) → length (path (trailOf m passages)) ≤ length buffer - at
+      → P (record { given = answer m (Read (length (path (trailOf m passages)))); buffer = overlaid at (path (trailOf m passages)) buffer }))
+      → P (pathOf m passages estimates buffer at)
+  unfolding pathOf
+  path-either P refusal reads =
+      provided-either P (fits m passages estimates) _ _ (refusal unfit (omega arith))
+      (λ _. provided-either P (eqb (m .phase) 1) _ _ (refusal notFound (omega arith))
+      (λ _. provided-either P (not (eqb (length (path (trailOf m passages))) 0)) _ _ (refusal brokenTrail (omega arith))
+      (λ some. provided-either P (leb (length (path (trailOf m passages))) (length buffer - at)) _ _ (refusal shortBuffer (omega arith))
+      (λ room. reads (eqb-false _ 0 (not-true _ some)) (leb-true _ _ room)))))
+
+  pub path-unfit : fits m passages estimates ≡ false → pathOf m passages estimates buffer at ≡ pathRefused m buffer unfit
   unfolding pathOf
   path-unfit f = rw f
 
   module _ (f : fits m passages estimates ≡ true) where
-    pub path-early : (m .phase ≡ 1 → ⊥) → pathOf m passages estimates buffer at ≡ unread m buffer 13
+    pub path-early : (m .phase ≡ 1 → ⊥) → pathOf m passages estimates buffer at ≡ pathRefused m buffer notFound
     unfolding pathOf
     path-early p = rw (f, ne-eqb (m .phase) 1 p)
 
-    module _ (p : m .phase ≡ 1) (many : ℕ) (q : many ≡ pathLength (trailOf m passages)) where
-      pub path-broken : many ≡ 0 → pathOf m passages estimates buffer at ≡ unread m buffer 14
+    module _ (p : m .phase ≡ 1) (many : ℕ) (q : many ≡ length (path (trailOf m passages))) where
+      pub path-broken : many ≡ 0 → pathOf m passages estimates buffer at ≡ pathRefused m buffer brokenTrail
       unfolding pathOf
       path-broken z = rw (f, eq-eqb (m .phase) 1 p, ← q, eq-eqb many 0 z)
 
       module _ (z : many ≡ 0 → ⊥) where
-        pub path-short : length buffer - at < many → pathOf m passages estimates buffer at ≡ unread m buffer 15
+        pub path-short : length buffer - at < many → pathOf m passages estimates buffer at ≡ pathRefused m buffer shortBuffer
         unfolding pathOf
         path-short l = rw (f, eq-eqb (m .phase) 1 p, ← q, ne-eqb many 0 z, lt-leb many (length buffer - at) l)
 
@@ -211,21 +240,16 @@ module _ (m : Machine) (passages estimates buffer : List ℕ) (at : ℕ) where
         unfolding pathOf
         path-read l = rw (f, eq-eqb (m .phase) 1 p, ← q, ne-eqb many 0 z, le-leb many (length buffer - at) l)
 
-        -- the path can be followed and written
-        pub path-way : Followed passages (m .via) (m .goal) many
-        path-way =
-            let h = fitting m passages estimates f in
-            subst⁻¹ (λ (k : ℕ). Followed passages (m .via) (m .goal) k) q
-            (path-followed (trailOf m passages) (inside m passages estimates h) (omega (arith, h .task .goal-in, h .task .states)) (λ e. z (q ∙ e)))
+        goal-in : m .goal < 256
+        goal-in = let h = fitting m passages estimates f in omega (arith, h .task .goal-in, h .task .states)
 
--- the part that was lent for the path, written and back in the buffer
-pub path-written : (m : Machine) (passages buffer part : List ℕ) (at many : ℕ) → many ≡ pathLength (trailOf m passages)
-    → part ≡ statesBack passages (m .via) (m .goal) many ++ drop many (midOf at (length buffer - at) buffer)
-    → putMid at (length buffer - at) buffer part ≡ overlaid at (path (trailOf m passages)) buffer
-path-written m passages buffer part at many q e =
-    ap (putMid at (length buffer - at) buffer) (e ∙ ap (λ (k : ℕ). written many ++ drop k (midOf at (length buffer - at) buffer)) (sym (states-length passages (m .via) (m .goal) many)))
-    ∙ put-overlaid at buffer (written many)
-    ∙ ap (λ (k : ℕ). overlaid at (written k) buffer) q
-  where
-    written : ℕ → List ℕ
-    written k = statesBack passages (m .via) (m .goal) k
+        -- the path can be followed and written
+        pub path-way : Followed passages (m .via) many (m .goal)
+        path-way = rw q (path-followed (trailOf m passages) (inside m passages estimates (fitting m passages estimates f)) goal-in (λ e. z (q ∙ e)))
+
+        -- the part that was lent for the path, written and back in the buffer
+        pub path-written : (part : List ℕ) → part ≡ statesBack passages (m .via) many (m .goal) [] ++ drop many (midOf at (length buffer - at) buffer)
+            → putMid at (length buffer - at) buffer part ≡ overlaid at (path (trailOf m passages)) buffer
+        path-written part e =
+            rw (e, q, ← path-states (trailOf m passages) (inside m passages estimates (fitting m passages estimates f)) goal-in (λ e. z (q ∙ e)))
+            (put-overlaid at buffer (path (trailOf m passages)))

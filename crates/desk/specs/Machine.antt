@@ -1,5 +1,5 @@
 -- "The machine": its fields, each written by a setter of its own, and what the other definitions read off it.
--- A field more changes this file, and the two whole machines of Opening.
+-- A field more changes this file, the two whole machines of Opening, and the row for C.
 use mathlib.Core.List.{List}
 use Prim.Native.Nat.{ℕ}
 use lib.ListN.{getD, set}
@@ -8,20 +8,26 @@ use Rattle.dealing.specs.Board.{Board, board}
 use Rattle.trail.specs.Trail.{Trail, trail}
 use Rattle.desk.specs.declared.Machine.{Machine}
 
+-- the machine of m's task with this phase and these rows
+abbrev rebuilt : Machine → ℕ → List ℕ → List ℕ → List ℕ → List ℕ → Machine
+rebuilt m phase mark label via held =
+    record { n = m .n; k = m .k; start = m .start; goal = m .goal; pull = m .pull; excess = m .excess; phase = phase; mark = mark; label = label; via = via; held = held }
+
+-- one thing set: the phase; a state's mark, label or passage number; what a worker holds
 abbrev pub withPhase : Machine → ℕ → Machine
-withPhase m p = record { n = m .n; k = m .k; start = m .start; goal = m .goal; pull = m .pull; excess = m .excess; phase = p; mark = m .mark; label = m .label; via = m .via; held = m .held }
+withPhase m p = rebuilt m p (m .mark) (m .label) (m .via) (m .held)
 
 abbrev pub withMark : Machine → ℕ → ℕ → Machine
-withMark m s k = record { n = m .n; k = m .k; start = m .start; goal = m .goal; pull = m .pull; excess = m .excess; phase = m .phase; mark = set (m .mark) s k; label = m .label; via = m .via; held = m .held }
+withMark m s k = rebuilt m (m .phase) (set (m .mark) s k) (m .label) (m .via) (m .held)
 
 abbrev pub withLabel : Machine → ℕ → ℕ → Machine
-withLabel m s l = record { n = m .n; k = m .k; start = m .start; goal = m .goal; pull = m .pull; excess = m .excess; phase = m .phase; mark = m .mark; label = set (m .label) s l; via = m .via; held = m .held }
+withLabel m s l = rebuilt m (m .phase) (m .mark) (set (m .label) s l) (m .via) (m .held)
 
 abbrev pub withVia : Machine → ℕ → ℕ → Machine
-withVia m s i = record { n = m .n; k = m .k; start = m .start; goal = m .goal; pull = m .pull; excess = m .excess; phase = m .phase; mark = m .mark; label = m .label; via = set (m .via) s i; held = m .held }
+withVia m s i = rebuilt m (m .phase) (m .mark) (m .label) (set (m .via) s i) (m .held)
 
 abbrev pub withHeld : Machine → ℕ → ℕ → Machine
-withHeld m w s = record { n = m .n; k = m .k; start = m .start; goal = m .goal; pull = m .pull; excess = m .excess; phase = m .phase; mark = m .mark; label = m .label; via = m .via; held = set (m .held) w s }
+withHeld m w s = rebuilt m (m .phase) (m .mark) (m .label) (m .via) (set (m .held) w s)
 
 -- the state that a worker holds, or `none`
 abbrev pub heldBy : Machine → ℕ → ℕ

@@ -7,6 +7,7 @@ use lib.Dec.{leb, eqb}
 use Rattle.laws.specs.Truth.{provided}
 use Rattle.laws.specs.All.{all}
 use Rattle.laws.specs.Part.{overlaid}
+use Rattle.rule.specs.Refusals.{shortRow, noEvent}
 use Rattle.desk.specs.declared.Machine.{Machine}
 use Rattle.desk.specs.declared.Reply.the-variants.{Done}
 use Rattle.desk.specs.declared.Answer.{Answer}
@@ -29,7 +30,7 @@ eventsRight events = all (λ i. isEvent (getD events i 0)) (length events)
 
 -- "Refusals, before all others: 16 where the row has fewer places than events, then 18": the number of the first that applies, or 0
 unfoldable pub morningFault : List ℕ → ℕ → ℕ
-morningFault events places = provided (leb (length events) places) 16 (provided (eventsRight events) 18 0)
+morningFault events places = provided (leb (length events) places) shortRow (provided (eventsRight events) noEvent 0)
 
 -- the answer to the whole list, and the row: each reply as its number
 pub record Morning : Type 0 where

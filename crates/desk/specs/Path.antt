@@ -5,8 +5,9 @@ use Prim.Native.Nat.{ℕ, _-_}
 use lib.ListN.{length}
 use lib.Dec.{leb, eqb}
 use Rattle.laws.specs.Truth.{provided}
+use Rattle.rule.specs.Refusals.{unfit, notFound, brokenTrail, shortBuffer}
 use Rattle.laws.specs.Part.{overlaid}
-use Rattle.trail.specs.Trail.{pathLength, path}
+use Rattle.trail.specs.Trail.{path}
 use Rattle.desk.specs.declared.Machine.{Machine}
 use Rattle.desk.specs.declared.Reply.the-variants.{Read}
 use Rattle.desk.specs.declared.Answer.{Answer}
@@ -15,18 +16,19 @@ use Rattle.desk.specs.Reply.{answer, refused}
 use Rattle.desk.specs.Fits.{fits}
 
 -- what is handed back, and what the caller's buffer then holds
-pub record Reading : Type 0 where
+pub record PathReading : Type 0 where
   pub given : Answer
   pub buffer : List ℕ
 
-abbrev pub unread : Machine → List ℕ → ℕ → Reading
-unread m buffer number = record { given = refused m number; buffer = buffer }
+abbrev pub pathRefused : Machine → List ℕ → ℕ → PathReading
+pathRefused m buffer number = record { given = refused m number; buffer = buffer }
 
 -- 8 "task or machine doesn't fit"; 13 "phase isn't 1"; 14 going back fails; 15 "fewer places from the named place to the buffer's end than the path has; a place past the end leaves none"
-unfoldable pub pathOf : Machine → List ℕ → List ℕ → List ℕ → ℕ → Reading
+unfoldable pub pathOf : Machine → List ℕ → List ℕ → List ℕ → ℕ → PathReading
 pathOf m passages estimates buffer at =
-    provided (fits m passages estimates) (unread m buffer 8)
-    (provided (eqb (m .phase) 1) (unread m buffer 13)
-    (provided (not (eqb (pathLength (trailOf m passages)) 0)) (unread m buffer 14)
-    (provided (leb (pathLength (trailOf m passages)) (length buffer - at)) (unread m buffer 15)
-    (record { given = answer m (Read (pathLength (trailOf m passages))); buffer = overlaid at (path (trailOf m passages)) buffer }))))
+    let states = path (trailOf m passages) in
+    provided (fits m passages estimates) (pathRefused m buffer unfit)
+    (provided (eqb (m .phase) 1) (pathRefused m buffer notFound)
+    (provided (not (eqb (length states) 0)) (pathRefused m buffer brokenTrail)
+    (provided (leb (length states) (length buffer - at)) (pathRefused m buffer shortBuffer)
+    (record { given = answer m (Read (length states)); buffer = overlaid at states buffer }))))

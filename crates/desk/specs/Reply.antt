@@ -1,4 +1,4 @@
--- Replies: a machine handed back with a reply beside it, and the document's number and value for each case.
+-- Replies: a machine handed back with a reply beside it. Each case has a number, which is ours (the document numbers only refusals), and the value that the document gives it.
 -- A case that is added, or gains a number, is added here; what callers make of one case they say by `when`.
 use mathlib.Core.Bool.{cond}
 use Prim.Native.Nat.{ℕ, _+_, _*_, _/_, _%_}

@@ -3,6 +3,7 @@ use mathlib.Core.List.{List}
 use Prim.Native.Nat.{ℕ}
 use lib.Dec.{eqb}
 use Rattle.rule.specs.Marks.{out, none}
+use Rattle.rule.specs.Refusals.{nothingOut}
 use Rattle.dealing.specs.declared.Decision.{Decision}
 use Rattle.dealing.specs.declared.Decision.the-variants.{Found as FoundAt, NoPath as NoPathLeft, Deal, Stuck, Wait as WaitOn}
 use Rattle.dealing.specs.Decision.{decision}
@@ -22,7 +23,7 @@ abbrev pub act : Machine → ℕ → Decision → Answer
 act m worker (FoundAt cost) = answer (withPhase m 1) (Found cost)
 act m worker NoPathLeft = answer (withPhase m 2) NoPath
 act m worker (Deal s) = answer (dealt m worker s) (Took s)
-act m worker Stuck = refused m 12
+act m worker Stuck = refused m nothingOut
 act m worker (WaitOn s) = answer m (Wait s)
 
 unfoldable pub takeStep : Machine → List ℕ → ℕ → Answer

@@ -9,6 +9,7 @@ use super::Machine;
 use super::Reply;
 use super::Swept;
 use super::fits;
+use rule::refusals;
 
 // The passages of the state s in slice order, but for blocked ones. Each far end that is unseen, or open with a greater label, gets its label by way of s.
 pub fn sweep(machine: Machine, passages: &[u32], s: usize) -> Swept
@@ -65,7 +66,7 @@ impl Machine {
             return fits::refused(self, number);
         }
         if self.held[worker] == rule::NONE {
-            return fits::refused(self, 11);
+            return fits::refused(self, refusals::WRONG_HANDS);
         }
         bring_step(self, passages, worker)
     }

@@ -1,11 +1,12 @@
 // Refusals before a call does anything: whether the task and the machine fit, and whether the worker may call.
 ghost use mathlib.Core.Path.{_≡_};
 ghost use Rattle.desk.specs.Fits.{fits};
-ghost use Rattle.desk.specs.Admission.{callFault};
+ghost use Rattle.desk.specs.Laws.{callFault};
 ghost use Rattle.desk.specs.Reply.{refused};
 use super::Answer;
 use super::Machine;
 use super::Reply;
+use rule::refusals;
 
 // The machine as it went in, with the refusal's number.
 pub fn refused(m: Machine, number: u8) -> Answer
@@ -46,13 +47,13 @@ pub fn call_fault(m: Machine, passages: &[u32], estimates: &[u32], worker: usize
     ensures { λ r. ⌜ r ≡ callFault m (now (passages .entry)) (now (estimates .entry)) worker ⌝ }
 {
     if !fits(m, passages, estimates) {
-        return 8;
+        return refusals::UNFIT;
     }
     if worker >= m.k {
-        return 9;
+        return refusals::NO_WORKER;
     }
     if m.phase != 0 {
-        return 10;
+        return refusals::NOT_SEARCHING;
     }
     0
 }

@@ -12,6 +12,7 @@ use super::Machine;
 use super::Reply;
 use super::coding;
 use super::fits;
+use rule::refusals;
 
 // The call that an event asks for: Take where its number is below 65,536, else Bring.
 pub fn called(m: Machine, passages: &[u32], estimates: &[u32], event: u32) -> Answer
@@ -41,10 +42,10 @@ pub fn morning_fault(events: &[u32], places: usize) -> u8
     ensures { λ r. ⌜ r ≡ morningFault (now (events .entry)) places ⌝ }
 {
     if places < events.len() {
-        return 16;
+        return refusals::SHORT_ROW;
     }
     if !are_events(events) {
-        return 18;
+        return refusals::NO_EVENT;
     }
     0
 }

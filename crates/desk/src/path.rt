@@ -5,27 +5,28 @@ use super::Answer;
 use super::Machine;
 use super::Reply;
 use super::fits;
+use rule::refusals;
 
 impl Machine {
     pub fn path(self, passages: &[u32], estimates: &[u32], buffer: &mut [u16], at: usize) -> Answer
         ensures { λ r. ⌜ (r ≡ pathOf self (now (passages .entry)) (now (estimates .entry)) (now (buffer .entry)) at .given) × (now (buffer .exit) ≡ pathOf self (now (passages .entry)) (now (estimates .entry)) (now (buffer .entry)) at .buffer) ⌝ }
     {
         if !fits::fits(self, passages, estimates) {
-            return fits::refused(self, 8);
+            return fits::refused(self, refusals::UNFIT);
         }
         if self.phase != 1 {
-            return fits::refused(self, 13);
+            return fits::refused(self, refusals::NOT_FOUND);
         }
         let goal = self.goal;
         let count = trail::path_length(&self.label, &self.via, passages, self.n, self.start, goal);
         if count == 0 {
-            return fits::refused(self, 14);
+            return fits::refused(self, refusals::BROKEN_TRAIL);
         }
         if at > buffer.len() {
-            return fits::refused(self, 15);
+            return fits::refused(self, refusals::SHORT_BUFFER);
         }
         if count > buffer.len() - at {
-            return fits::refused(self, 15);
+            return fits::refused(self, refusals::SHORT_BUFFER);
         }
         trail::write_back(&mut buffer[at..], &self.via, passages, goal, count);
         let states = count as u16;

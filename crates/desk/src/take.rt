@@ -1,7 +1,7 @@
 // Take: a worker asks for a state.
 ghost use mathlib.Core.Path.{_≡_};
 ghost use Prim.Native.Nat.{_<_};
-ghost use Rattle.rule.specs.Task.{Whole};
+ghost use Rattle.rule.specs.Laws.{WholeTable};
 ghost use Rattle.desk.specs.Take.{act, takeStep, takeOf};
 ghost use Rattle.desk.specs.Laws.{Placed};
 use super::Answer;
@@ -9,6 +9,7 @@ use super::Machine;
 use super::Reply;
 use super::fits;
 use dealing::Decision;
+use rule::refusals;
 
 // What a decided step does to the machine.
 pub fn act(m: Machine, worker: usize, decision: Decision) -> Answer
@@ -40,7 +41,7 @@ pub fn act(m: Machine, worker: usize, decision: Decision) -> Answer
                 reply: Reply::Took(number),
             }
         }
-        Decision::Stuck => fits::refused(m, 12),
+        Decision::Stuck => fits::refused(m, refusals::NOTHING_OUT),
         Decision::Wait(s) => Answer {
             machine: m,
             reply: Reply::Wait(s as u16),
@@ -50,7 +51,7 @@ pub fn act(m: Machine, worker: usize, decision: Decision) -> Answer
 
 // The five steps, past the refusals.
 pub fn take_step(m: Machine, estimates: &[u32], worker: usize) -> Answer
-    requires { ⌜ Whole (now estimates) (m .n) × ((m .goal < m .n) × (worker < 32)) ⌝ }
+    requires { ⌜ WholeTable (now estimates) (m .n) × ((m .goal < m .n) × (worker < 32)) ⌝ }
     ensures { λ r. ⌜ r ≡ takeStep m (now (estimates .entry)) worker ⌝ }
 {
     let decision = dealing::decide(&m.mark, &m.label, estimates, m.n, m.excess, m.goal, m.pull);
@@ -66,7 +67,7 @@ impl Machine {
             return fits::refused(self, number);
         }
         if self.held[worker] != rule::NONE {
-            return fits::refused(self, 11);
+            return fits::refused(self, refusals::WRONG_HANDS);
         }
         take_step(self, estimates, worker)
     }

@@ -5,6 +5,7 @@ use Prim.Native.Nat.{ℕ}
 use lib.ListN.{length}
 use lib.Dec.{eqb}
 use Rattle.laws.specs.Truth.{provided}
+use Rattle.rule.specs.Refusals.{unfit}
 use Rattle.checks.specs.Opening.{Task}
 use Rattle.desk.specs.declared.Reply.the-variants.{Refused}
 use Rattle.desk.specs.declared.Answer.{Answer}
@@ -12,7 +13,7 @@ use Rattle.desk.specs.Reply.{codeOf}
 use Rattle.desk.specs.Opening.{openingOf}
 use Rattle.desk.specs.Take.{takeOf}
 use Rattle.desk.specs.Bring.{bringOf}
-use Rattle.desk.specs.Path.{Reading, pathOf}
+use Rattle.desk.specs.Path.{PathReading, pathOf}
 use Rattle.desk.specs.Morning.{Morning, morningFault, morningOf}
 use Rattle.deskc.specs.Row.{rowLength, isRow, unpacked, changed, packed}
 
@@ -22,20 +23,20 @@ pub record Turn : Type 0 where
   pub row : List ℕ
 
 -- a row that holds no machine: refusal 8, and nothing is written
-abbrev pub unfit : List ℕ → Turn
-unfit row = record { code = codeOf (Refused 8); row = row }
+abbrev pub unturned : List ℕ → Turn
+unturned row = record { code = codeOf (Refused unfit); row = row }
 
 abbrev pub turned : List ℕ → Answer → Turn
 turned row a = record { code = codeOf (a .reply); row = changed row (a .machine) }
 
 unfoldable pub openRow : Task → List ℕ → Turn
 openRow t row =
-    provided (eqb (length row) rowLength) (unfit row)
+    provided (eqb (length row) rowLength) (unturned row)
     (record { code = codeOf (openingOf t .reply); row = packed (openingOf t .machine) })
 
 -- a worker's call: on the machine that the row holds, where it holds one
 unfoldable pub turnOf : List ℕ → Answer → Turn
-turnOf row a = provided (isRow row) (unfit row) (turned row a)
+turnOf row a = provided (isRow row) (unturned row) (turned row a)
 
 abbrev pub takeRow : List ℕ → List ℕ → List ℕ → ℕ → Turn
 takeRow row passages estimates worker = turnOf row (takeOf (unpacked row) passages estimates worker)
@@ -48,12 +49,12 @@ pub record Lines : Type 0 where
   pub code : ℕ
   pub buffer : List ℕ
 
-abbrev pub lines : Reading → Lines
+abbrev pub lines : PathReading → Lines
 lines r = record { code = codeOf (r .given .reply); buffer = r .buffer }
 
 unfoldable pub pathRow : List ℕ → List ℕ → List ℕ → List ℕ → ℕ → Lines
 pathRow row passages estimates buffer at =
-    provided (isRow row) (record { code = codeOf (Refused 8); buffer = buffer }) (lines (pathOf (unpacked row) passages estimates buffer at))
+    provided (isRow row) (record { code = codeOf (Refused unfit); buffer = buffer }) (lines (pathOf (unpacked row) passages estimates buffer at))
 
 -- a morning over a row: the reply's number, the machine's row, and the row of replies; "Refusals, before all others: 16 .., then 18"
 pub record Served : Type 0 where
@@ -70,5 +71,5 @@ served row o = record { code = codeOf (o .given .reply); row = changed row (o .g
 unfoldable pub morningRow : List ℕ → List ℕ → List ℕ → List ℕ → List ℕ → Served
 morningRow row passages estimates events replies =
     cond (eqb (morningFault events (length replies)) 0)
-    (provided (isRow row) (unserved row replies 8) (served row (morningOf (unpacked row) passages estimates events replies)))
+    (provided (isRow row) (unserved row replies unfit) (served row (morningOf (unpacked row) passages estimates events replies)))
     (unserved row replies (morningFault events (length replies)))

@@ -1,6 +1,6 @@
 -- What the functions over rows rest on: lists by their places, what a row that holds a machine says, and machines written into rows.
 use mathlib.Core.Path.{_≡_, refl, sym, ap, _∙_}
-use mathlib.Core.Bool.{Bool, true, false}
+use mathlib.Core.Bool.{Bool, true, false, _&&_}
 use mathlib.Core.List.{List, [], _∷_, _++_, append-nil, append-assoc}
 use Prim.Native.Nat.{ℕ, _+_, _≤_, _<_}
 use native.Mathlib.Omega.{arith}
@@ -8,18 +8,21 @@ use lib.ListN.{length, getD, set, take, drop, length-append, length-take, length
 use lib.Seq.{ext-getD, getD-take, getD-drop, drop-drop, set-getD}
 use lib.Dec.{leb, eqb}
 use borrow.Author.Tests.{eqb-true, leb-true}
-use Rattle.laws.specs.Truth.{and-left, and-right}
+use Rattle.laws.specs.Truth.{and-left, and-right, provided}
 use Rattle.laws.specs.All.{all-at}
 use Rattle.laws.specs.Part.{overlaid}
 use Rattle.laws.specs.Fill.{made, made-length, made-at, Filled, filled-end, overlaid-one, overlaid-next}
-use Rattle.checks.specs.Opening.{Task, fault}
+use Rattle.rule.specs.Refusals.{unfit}
+use Rattle.checks.specs.Opening.{Task, task, weightsRight, holds1, holds2, holds3, fault}
 use Rattle.checks.specs.Laws.{right, fault-none}
 use Rattle.desk.specs.declared.Machine.{Machine}
 use Rattle.desk.specs.Opening.{openingOf, openedMachine, blankMachine}
 use Rattle.desk.specs.declared.Reply.the-variants.{Refused}
 use Rattle.desk.specs.declared.Answer.{Answer}
-use Rattle.desk.specs.Reply.{codeOf}
+use Rattle.desk.specs.Reply.{codeOf, refused}
+use Rattle.desk.specs.Laws.{Sized}
 use Rattle.deskc.specs.Calls.{turnOf}
+use Rattle.deskc.specs.Weights.{clamped}
 use Rattle.deskc.specs.Row.{atMost, isRow, part, unpacked, changing, changed, packed}
 
 -- a list made of another's places is that list
@@ -88,13 +91,7 @@ row-bounds row e =
       workers = at-most-at row 775 32 65535 (and-right (atMost row 519 256 65535) _ e₄);
     }
 
--- a machine whose rows are of their types' lengths
-pub record Sized (m : Machine) : Type 0 where
-  pub marks : length (m .mark) ≡ 256
-  pub labels : length (m .label) ≡ 256
-  pub vias : length (m .via) ≡ 256
-  pub workers : length (m .held) ≡ 32
-
+-- what a call can change, of a machine whose rows are as long as their types say
 pub changing-length : (m : Machine) → Sized m → length (changing m) ≡ 801
 unfolding changing
 changing-length m s = simp length-append (omega (arith, s .marks, s .labels, s .vias, s .workers))
@@ -135,6 +132,51 @@ opened-small t = go (eqb (fault t) 0) refl
         rw e ((omega (arith, r .states), omega (arith, r .workers)), (omega (arith, r .states, r .start-in), omega (arith, r .states, r .goal-in)))
     go false e = rw e ((omega arith, omega arith), (omega arith, omega arith))
 
+-- weights that pass check 3 are small
+weights-low : (pull excess : ℕ) → weightsRight pull excess ≡ true → (pull ≤ 10000) × (excess ≤ 10000)
+unfolding weightsRight
+weights-low pull excess e =
+    let high : excess ≤ 10000 = leb-true _ _ (and-right (leb 100 excess) _ (and-left _ (leb pull excess) e)) in
+    let pulled : pull ≤ excess = leb-true _ _ (and-right (leb 100 excess && leb excess 10000) _ e) in
+    (omega arith, high)
+
+-- clamped weights are small only where the weights are: out of range, they stay so
+weights-clamped : (pull excess : ℕ) → weightsRight pull excess ≡ false → weightsRight (clamped pull) (clamped excess) ≡ false
+weights-clamped pull excess f = go (weightsRight (clamped pull) (clamped excess)) refl
+  where
+    go : (b : Bool) → weightsRight (clamped pull) (clamped excess) ≡ b → weightsRight (clamped pull) (clamped excess) ≡ false
+    go true e =
+        let l = weights-low (clamped pull) (clamped excess) e in
+        let p : clamped pull ≡ pull = omega (arith, l .0) in
+        let q : clamped excess ≡ excess = omega (arith, l .1) in
+        rw (p, q) f
+    go false e = e
+
+-- a task whose weights are out of range is refused for 1, 2 or 3
+weights-refused : (t : Task) → holds3 t ≡ false → openingOf t ≡ refused blankMachine (provided (holds1 t) 1 (provided (holds2 t) 2 3))
+unfolding openingOf fault
+weights-refused t e = go (holds1 t) (holds2 t) refl refl
+  where
+    go : (a b : Bool) → holds1 t ≡ a → holds2 t ≡ b → openingOf t ≡ refused blankMachine (provided (holds1 t) 1 (provided (holds2 t) 2 3))
+    go false b p q = rw p
+    go true false p q = rw (p, q)
+    go true true p q = rw (p, q, e)
+
+-- opening answers to clamped weights as to the weights themselves
+pub opening-clamped : (n k start goal pull excess : ℕ) (passages estimates : List ℕ)
+    → openingOf (task n k start goal (clamped pull) (clamped excess) passages estimates) ≡ openingOf (task n k start goal pull excess passages estimates)
+opening-clamped n k start goal pull excess passages estimates = go (weightsRight pull excess) refl
+  where
+    go : (b : Bool) → weightsRight pull excess ≡ b → openingOf (task n k start goal (clamped pull) (clamped excess) passages estimates) ≡ openingOf (task n k start goal pull excess passages estimates)
+    go true e =
+        let l = weights-low pull excess e in
+        let p : clamped pull ≡ pull = omega (arith, l .0) in
+        let q : clamped excess ≡ excess = omega (arith, l .1) in
+        rw (p, q)
+    go false e =
+        weights-refused (task n k start goal (clamped pull) (clamped excess) passages estimates) (weights-clamped pull excess e)
+        ∙ sym (weights-refused (task n k start goal pull excess passages estimates) e)
+
 -- a machine handed back as it came leaves the row as it was: a refused call writes nothing
 pub changed-unpacked : (row : List ℕ) → isRow row ≡ true → changed row (unpacked row) ≡ row
 unfolding changed changing unpacked
@@ -150,7 +192,7 @@ changed-unpacked row e =
     own-next 6 7 row (getD row 6 0 ∷ []) (part row 7 256 ++ (part row 263 256 ++ (part row 519 256 ++ part row 775 32))) (sym (overlaid-one 6 row (getD row 6 0) (omega arith)) ∙ set-getD row 6 0) mark (omega arith) (omega arith)
 
 -- a worker's call over a row, by whether the row holds a machine
-pub turn-unfit : (row : List ℕ) (a : Answer) (code : ℕ) → isRow row ≡ false → code ≡ codeOf (Refused 8) → (code ≡ turnOf row a .code) × (row ≡ turnOf row a .row)
+pub turn-unfit : (row : List ℕ) (a : Answer) (code : ℕ) → isRow row ≡ false → code ≡ codeOf (Refused unfit) → (code ≡ turnOf row a .code) × (row ≡ turnOf row a .row)
 unfolding turnOf
 turn-unfit row a code e q = (rw e q, rw e refl)
 

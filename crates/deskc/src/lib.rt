@@ -9,6 +9,7 @@ ghost use Rattle.deskc.specs.Calls.{openRow, takeRow, bringRow, morningR
 
 mod maps;
 mod row;
+mod weights;
 
 use desk::Machine;
 use desk::Reply;
@@ -19,8 +20,8 @@ pub extern "C" fn desk_open(
     k: usize,
     start: usize,
     goal: usize,
-    pull: u16,
-    excess: u16,
+    pull: usize,
+    excess: usize,
     passages: &[u32],
     estimates: &[u32],
     machine: &mut [u32],
@@ -31,7 +32,9 @@ pub extern "C" fn desk_open(
     if machine.len() != 807 {
         return row::unfit();
     }
-    let answer = Machine::opening(n, k, start, goal, pull, excess, passages, estimates);
+    let w = weights::clamp(pull);
+    let e = weights::clamp(excess);
+    let answer = Machine::opening(n, k, start, goal, w, e, passages, estimates);
     let reply = answer.reply;
     let m = answer.machine;
     row::put_head(machine, m);

@@ -6,6 +6,7 @@ ghost use Prim.Native.Nat.{ℕ, _+_, _≤_, _<_};
 ghost use lib.ListN.{length};
 ghost use Rattle.laws.specs.Part.{overlaid};
 ghost use Rattle.desk.specs.declared.Reply.the-variants.{Refused};
+ghost use Rattle.rule.specs.Refusals.{unfit};
 ghost use Rattle.desk.specs.Reply.{codeOf};
 ghost use Rattle.deskc.specs.Row.{atMost, isRow, part, unpacked, changed};
 use desk::Machine;
@@ -13,9 +14,9 @@ use desk::Reply;
 
 // Refusal 8, as a number.
 pub fn unfit() -> u64
-    ensures { λ r. ⌜ r ≡ codeOf (Refused 8) ⌝ }
+    ensures { λ r. ⌜ r ≡ codeOf (Refused unfit) ⌝ }
 {
-    desk::code(Reply::Refused(8))
+    desk::code(Reply::Refused(rule::refusals::UNFIT))
 }
 
 // The numbers from a place on are at most so large.

@@ -1,2 +1,2 @@
--- Two answers that a contract allows are equal, for each call that the desk offers.
-pub mod Determined
+-- What it is for a contract to determine its answer.
+pub mod Fixes

@@ -1,1 +1,1 @@
-// That each contract determines its answer: all of it is in specs/, and there is no code.
+// What it is for a contract to determine its answer: all of it is in specs/, and there is no code.

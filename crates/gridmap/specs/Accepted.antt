@@ -1,6 +1,6 @@
 -- What is so of every map that is read: "Show once, over all maps, that opening refuses none of the resulting tasks for 4 to 7."
 use mathlib.Core.Path.{_≡_, refl, _∙_}
-use mathlib.Core.Bool.{Bool, true, false, cond}
+use mathlib.Core.Bool.{Bool, true, false}
 use mathlib.Core.Logic.{_≢_}
 use mathlib.Core.List.{List}
 use Prim.Native.Nat.{ℕ, _*_, _≤_, _<_}
@@ -18,7 +18,7 @@ use Rattle.gridmap.specs.declared.Spot.the-variants.{At}
 use Rattle.gridmap.specs.Map.{Map, mapOf, placeOf, stateOf, stateCount}
 use Rattle.gridmap.specs.Passages.{passagesOf, passagesMany}
 use Rattle.gridmap.specs.Estimates.{estimatesOf}
-use Rattle.gridmap.specs.Reading.{mapFault, roomy, Reading, unread, drawn, readMap, spotOf, stateAtSpot}
+use Rattle.gridmap.specs.Reading.{mapFault, roomy, MapReading, mapRefused, drawn, readMap, spotOf, stateAtSpot}
 use Rattle.gridmap.specs.HeadLaws.{height-most, width-most}
 use Rattle.gridmap.specs.CellLaws.{cell-state}
 use Rattle.gridmap.specs.EstimateLaws.{estimates-length}
@@ -84,13 +84,13 @@ reader-opens text passages estimates n many q k start goal pull excess = go (eqb
     m : Map
     m = mapOf text
 
-    Opens : Reading → Type 0
+    Opens : MapReading → Type 0
     Opens r = r .reply ≡ Drawn n many → fault (task n k start goal pull excess (take (3 * many) (r .passages)) (take (n * n) (r .estimates))) ≤ 3
 
     front : (xs l : List ℕ) (w : ℕ) → length xs ≡ w → take w (overlaid 0 xs l) ≡ xs
     front xs l w e = rw (← e) (overlaid-front xs l)
 
-    go : (b : Bool) → eqb (mapFault text) 0 ≡ b → (c : Bool) → Opens (cond b (provided c (unread passages estimates 34) (drawn m passages estimates)) (unread passages estimates (mapFault text)))
+    go : (b : Bool) → eqb (mapFault text) 0 ≡ b → (c : Bool) → Opens (provided b (mapRefused passages estimates (mapFault text)) (provided c (mapRefused passages estimates 34) (drawn m passages estimates)))
     go true e true d =
         let f = eqb-true (mapFault text) 0 e in
         let r = map-right text f in

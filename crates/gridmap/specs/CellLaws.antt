@@ -6,6 +6,7 @@ use Prim.Native.Nat.{ℕ, _+_, _≤_, _<_}
 use native.Mathlib.Nat.{mul-le-mul, mod-lt, div-add-mod', div-lt-iff-lt-mul}
 use native.Mathlib.Decide.{ℕ-discrete}
 use native.Mathlib.Omega.{arith}
+use Prim.Native.Char.{code}
 use lib.ListN.{length}
 use lib.Arith.{digits-lt, digits-div, digits-mod}
 use lib.Dec.{eqb}
@@ -16,7 +17,6 @@ use Rattle.laws.specs.First.{first}
 use Rattle.laws.specs.Count.{count-before}
 use Rattle.laws.specs.Gather.{picked-length, picked-at, picked-passes, picked-below, picked-count, picked-first}
 use Rattle.gridmap.specs.declared.Head.{Head}
-use Rattle.gridmap.specs.Text.{feed}
 use Rattle.gridmap.specs.Map.{Map, stride, places, byteAt, isOpen, isClosed, placeRight, rowsRight, openAt, cells, cellOf, rowOf, columnOf, placeOf, stateOf, stateCount}
 use Rattle.gridmap.specs.Laws.{mapWith, Small}
 
@@ -51,7 +51,7 @@ module _ (m : Map) where
     unfolding openAt
     open-is t q = rw (← e) (sym q)
 
-    pub feed-is : columnOf m p ≡ m .width → placeRight m p ≡ eqb b feed
+    pub feed-is : columnOf m p ≡ m .width → placeRight m p ≡ eqb b (code "\n")
     feed-is q = rw (eq-eqb _ _ q, e)
 
     pub cell-is : (columnOf m p ≡ m .width → ⊥) → placeRight m p ≡ isOpen b || isClosed b
@@ -62,8 +62,8 @@ module _ (m : Map) where
   unfolding rowsRight openAt isOpen
   open-column p r l o = go (ℕ-discrete (columnOf m p) (m .width))
     where
-      fed : (b : ℕ) → eqb b feed ≡ true → isOpen b ≡ true → ⊥
-      fed b e o = true≢false (sym (rw (eqb-true b feed e) at o))
+      fed : (b : ℕ) → eqb b (code "\n") ≡ true → isOpen b ≡ true → ⊥
+      fed b e o = true≢false (sym (rw (eqb-true b (code "\n") e) at o))
 
       right : placeRight m p ≡ true
       right = all-at (placeRight m) (places m) p (and-right (eqb (length (m .text)) (m .rows + places m)) _ r) l

@@ -10,7 +10,7 @@ use Rattle.laws.specs.All.{all-of}
 use Rattle.rule.specs.Task.{isClear, estimate}
 use Rattle.checks.specs.Opening.{passageRight, passagesRight, rowRight, estimatesRight, passageBounds, passagesBound, detourBounds, detoursBy, detoursFrom, detoursBound}
 use Rattle.gridmap.specs.Map.{Map, stride, cellOf, stateCount}
-use Rattle.gridmap.specs.Passages.{costTo, stateAt, headingAt, leadsTo, passagesOf}
+use Rattle.gridmap.specs.Passages.{costTo, comesFrom, headingAt, leadsTo, passagesOf}
 use Rattle.gridmap.specs.Estimates.{between, estimatesOf}
 use Rattle.gridmap.specs.CellLaws.{row-in, column-in, cell-in}
 use Rattle.gridmap.specs.EstimateLaws.{between-triangle, between-self, between-small, estimate-is}
@@ -21,7 +21,7 @@ module _ (m : Map) where
   unfolding passagesRight
   right-four = listed-all m (passageRight (passagesOf m) (stateCount m)) (λ i j f.
       rw (f .near-is, f .far-is, f .cost-is)
-      (and-both (and-both (lt-ltb (stateAt j) (stateCount m) (from-in m j (f .inside))) (lt-ltb (leadsTo m j) (stateCount m) (to-in m j (f .passes))))
+      (and-both (and-both (lt-ltb (comesFrom j) (stateCount m) (from-in m j (f .inside))) (lt-ltb (leadsTo m j) (stateCount m) (to-in m j (f .passes))))
       (or-second (not (isClear (passagesOf m) i)) _ (le-leb (costTo (headingAt j)) 1000000 (omega (arith, cost-small (headingAt j)))))))
 
   pub right-five : m .height ≤ 256 → m .width ≤ 256 → estimatesRight (estimatesOf m) (stateCount m) ≡ true
@@ -39,8 +39,8 @@ module _ (m : Map) where
   pub right-six : passagesBound (passagesOf m) (estimatesOf m) (stateCount m) ≡ true
   unfolding passagesBound
   right-six = listed-all m (passageBounds (passagesOf m) (estimatesOf m) (stateCount m)) (λ i j f.
-      rw (f .near-is, f .far-is, f .cost-is, estimate-is m (stateAt j) (leadsTo m j) (from-in m j (f .inside)) (to-in m j (f .passes)))
-      (or-second (not (isClear (passagesOf m) i)) _ (le-leb (between (stride m) (cellOf m (stateAt j)) (cellOf m (leadsTo m j))) (costTo (headingAt j)) (passage-near m j (f .passes)))))
+      rw (f .near-is, f .far-is, f .cost-is, estimate-is m (comesFrom j) (leadsTo m j) (from-in m j (f .inside)) (to-in m j (f .passes)))
+      (or-second (not (isClear (passagesOf m) i)) _ (le-leb (between (stride m) (cellOf m (comesFrom j)) (cellOf m (leadsTo m j))) (costTo (headingAt j)) (passage-near m j (f .passes)))))
 
   pub right-seven : detoursBound (estimatesOf m) (stateCount m) ≡ true
   unfolding detoursBound detoursFrom detoursBy

@@ -1,33 +1,24 @@
--- Distances: gaps and octile distances without cases, the distances between places, and the estimates, which are the distances of the states' cells.
-use mathlib.Core.Path.{_≡_, refl, _∙_}
-use mathlib.Core.Bool.{Bool, true, false, cond}
+-- Distances: gaps and octile distances as sums of differences, the distances between places, and the estimates, which are the distances of the states' cells.
+use mathlib.Core.Path.{_≡_, _∙_}
 use Prim.Native.Nat.{ℕ, _+_, _*_, _-_, _/_, _%_, _≤_, _<_}
 use native.Mathlib.Omega.{arith}
-use lib.ListN.{length, getD}
+use lib.ListN.{length}
 use lib.Arith.{digits-lt, digits-div, digits-mod}
-use lib.Dec.{leb}
-use borrow.Author.Tests.{leb-true, leb-false}
 use Rattle.laws.specs.Fill.{made-length, made-at}
 use Rattle.rule.specs.Task.{estimate}
 use Rattle.gridmap.specs.Map.{Map, stride, cells, cellOf, stateCount}
-use Rattle.gridmap.specs.Estimates.{gap, octile, between, tableOf, estimatesOf}
+use Rattle.gridmap.specs.Estimates.{gap, octile, between, estimatesOf}
+use Rattle.gridmap.specs.Laws.{tableOf}
 use Rattle.gridmap.specs.CellLaws.{cells-length}
 
--- the gap and the octile distance without cases
+-- no `max`, no `min`
 pub gap-sum : (a b : ℕ) → gap a b ≡ (a - b) + (b - a)
-gap-sum a b = go (leb a b) refl
-  where
-    go : (c : Bool) → leb a b ≡ c → cond c (b - a) (a - b) ≡ (a - b) + (b - a)
-    go true e = omega (arith, leb-true a b e)
-    go false e = omega (arith, leb-false a b e)
+unfolding gap
+gap-sum a b = omega arith
 
 octile-sum : (a b : ℕ) → octile a b ≡ 1000 * a + 414 * b + 586 * (b - a)
 unfolding octile
-octile-sum a b = go (leb a b) refl
-  where
-    go : (c : Bool) → leb a b ≡ c → cond c (1000 * b + 414 * a) (1000 * a + 414 * b) ≡ 1000 * a + 414 * b + 586 * (b - a)
-    go true e = omega (arith, leb-true a b e)
-    go false e = omega (arith, leb-false a b e)
+octile-sum a b = omega arith
 
 -- a gap is no larger than what neither coordinate is larger than
 pub gap-most : (a b n : ℕ) → a ≤ n → b ≤ n → gap a b ≤ n
@@ -51,7 +42,7 @@ pub between-self : (w a : ℕ) → between w a a ≡ 0
 unfolding between
 between-self w a = omega (arith, octile-sum (gap (a / w) (a / w)) (gap (a % w) (a % w)), gap-sum (a / w) (a / w), gap-sum (a % w) (a % w))
 
--- coordinates up to 256 are no farther than 256 apart
+-- coordinates up to 256 make no estimate that is too large
 pub between-small : (w a b : ℕ) → a / w ≤ 256 → a % w ≤ 256 → b / w ≤ 256 → b % w ≤ 256 → between w a b ≤ 255000000
 unfolding between
 between-small w a b h i j k =
@@ -60,12 +51,16 @@ between-small w a b h i j k =
 -- estimates are the distances of the states' cells
 module _ (m : Map) where
   pub estimates-length : length (estimatesOf m) ≡ stateCount m * stateCount m
-  unfolding tableOf
-  estimates-length = made-length (λ i. between (stride m) (getD (cells m) (i / length (cells m)) 0) (getD (cells m) (i % length (cells m)) 0)) (length (cells m) * length (cells m)) ∙ rw (cells-length m)
+  unfolding estimatesOf
+  estimates-length = made-length _ (stateCount m * stateCount m)
 
   pub estimate-is : (a b : ℕ) → a < stateCount m → b < stateCount m → estimate (estimatesOf m) (stateCount m) a b ≡ between (stride m) (cellOf m a) (cellOf m b)
-  unfolding tableOf
+  unfolding estimatesOf
   estimate-is a b h k =
-      rw (cells-length m)
-      (made-at (λ i. between (stride m) (getD (cells m) (i / stateCount m) 0) (getD (cells m) (i % stateCount m) 0)) (stateCount m * stateCount m) (a * stateCount m + b) 0 (digits-lt h k)
-      ∙ rw (digits-div a k, digits-mod a k))
+      made-at (λ i. between (stride m) (cellOf m (i / stateCount m)) (cellOf m (i % stateCount m))) (stateCount m * stateCount m) (a * stateCount m + b) 0 (digits-lt h k)
+      ∙ rw (digits-div a k, digits-mod a k)
+
+  -- as a loop over the row that holds the cells makes them
+  pub table-is : tableOf (stride m) (cells m) ≡ estimatesOf m
+  unfolding tableOf estimatesOf
+  table-is = rw (cells-length m)

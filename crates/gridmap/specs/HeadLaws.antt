@@ -4,14 +4,16 @@ use mathlib.Core.Bool.{true, not}
 use mathlib.Core.List.{List}
 use Prim.Native.Nat.{ℕ, zero, suc, _+_, _*_, _≤_, _<_}
 use native.Mathlib.Omega.{arith}
+use lib.ListN.{length}
 use lib.Dec.{leb, eqb}
 use borrow.Author.Tests.{leb-true}
 use Rattle.laws.specs.Truth.{and-left, and-right}
 use Rattle.laws.specs.Fold.{fold, fold-more}
 use Rattle.laws.specs.First.{first-le}
 use Rattle.gridmap.specs.declared.Head.{Head}
+use Rattle.laws.specs.Ascii.{ascii}
 use Rattle.gridmap.specs.Text.{digit, digits, number, size, isSize, heightAt, widthAt, rowsAt, headRight}
-use Rattle.gridmap.specs.Map.{Map, map, mapOf}
+use Rattle.gridmap.specs.Map.{Map, mapOf}
 use Rattle.gridmap.specs.Laws.{mapWith, Small}
 
 -- the largest that so many digits can make, where what is no digit counts as 10
@@ -61,6 +63,10 @@ module _ (text : List ℕ) (at : ℕ) where
   unfolding isSize
   size-most e = leb-true _ _ (and-right (leb 1 (size text at)) _ (and-right (not (eqb (digit text at) 0)) _ e))
 
+-- the words between the numbers take 19, 7 and 5 bytes
+pub words-take : (length (ascii "type octile\nheight ") ≡ 19) × (length (ascii "\nwidth ") ≡ 7) × (length (ascii "\nmap\n") ≡ 5)
+words-take = (refl, refl, refl)
+
 -- what the numbers that were read make is the map that the text announces
 width-at : (text : List ℕ) (a : ℕ) → a ≡ digits text heightAt → 26 + a ≡ widthAt text
 unfolding widthAt
@@ -71,7 +77,7 @@ unfolding rowsAt
 rows-at text a b e q = omega (arith, width-at text a e)
 
 pub head-is : (text : List ℕ) (a b y x : ℕ) → a ≡ digits text heightAt → b ≡ digits text (26 + a) → y ≡ number text heightAt a → x ≡ number text (26 + a) b
-    → map text y x (31 + a + b) ≡ mapOf text
+    → mapWith text (record { height = y; width = x; rows = 31 + a + b }) ≡ mapOf text
 unfolding mapOf
 head-is text a b y x ea eb ey ex =
     let w = width-at text a ea in

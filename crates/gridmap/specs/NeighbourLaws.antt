@@ -7,16 +7,13 @@ use lib.Dec.{leb, eqb}
 use borrow.Author.Tests.{leb-true, eqb-true, le-leb}
 use Rattle.laws.specs.Truth.{and-left, and-right, and-both}
 use Rattle.laws.specs.All.{all, all-at}
-use Rattle.gridmap.specs.Map.{Map, places, rowsRight, openAt, cellOf, rowOf, columnOf, placeOf, stateOf, stateCount}
-use Rattle.gridmap.specs.Passages.{free, isDiagonal, rowTo, columnTo, linked, costTo}
+use Rattle.gridmap.specs.Map.{Map, places, rowsRight, openAt, cellOf, rowOf, columnOf, stateOf, stateCount}
+use Rattle.gridmap.specs.Passages.{framed, free, isDiagonal, rowTo, columnTo, linked, costTo}
 use Rattle.gridmap.specs.Estimates.{gap, octile}
 use Rattle.gridmap.specs.CellLaws.{row-in, place-split, place-in, place-row, place-column, open-column, cell-in, cell-open, state-in, state-cell}
 use Rattle.gridmap.specs.EstimateLaws.{gap-sum}
 
--- the place of a framed row and column, and what a free one has
-abbrev pub framed : Map → ℕ → ℕ → ℕ
-framed m y x = placeOf m (y - 1) (x - 1)
-
+-- what a free cell has
 pub record Free (m : Map) (y x : ℕ) : Type 0 where
   pub top : 1 ≤ y
   pub bottom : y ≤ m .height
@@ -63,7 +60,7 @@ unfolding free
 cell-free m r s l =
     let row = row-in m (cellOf m s) (cell-in m s l) in
     let column = open-column m (cellOf m s) r (cell-in m s l) (cell-open m s l) in
-    let back : placeOf m (rowOf m (cellOf m s) + 1 - 1) (columnOf m (cellOf m s) + 1 - 1) ≡ cellOf m s = unframed m (cellOf m s) in
+    let back = unframed m (cellOf m s) in
     and-both
     (and-both
     (and-both (le-leb 1 (rowOf m (cellOf m s) + 1) (omega arith)) (le-leb (rowOf m (cellOf m s) + 1) (m .height) (omega arith)))
@@ -85,12 +82,13 @@ unfolding columnTo
 column-shift d a = shift a (leb 5 d) (leb 1 d && leb d 3)
 
 -- it goes no farther than it costs
+gap-shift : (a c t : ℕ) → c + 1 ≡ a + t → gap a c ≡ gap 1 t
+gap-shift a c t h = omega (arith, gap-sum a c, gap-sum 1 t)
+
 pub step-near : (d a b c e : ℕ) → d < 8 → c + 1 ≡ rowTo d (a + 1) → e + 1 ≡ columnTo d (b + 1) → octile (gap a c) (gap b e) ≤ costTo d
-unfolding octile rowTo columnTo all
+unfolding gap octile rowTo columnTo all
 step-near d a b c e l h k =
-    let row : gap a c ≡ gap 1 (rowTo d 1) = omega (arith, row-shift d a, gap-sum a c, gap-sum 1 (rowTo d 1)) in
-    let column : gap b e ≡ gap 1 (columnTo d 1) = omega (arith, column-shift d b, gap-sum b e, gap-sum 1 (columnTo d 1)) in
-    rw (row, column) (leb-true _ _ (all-at (λ d. leb (octile (gap 1 (rowTo d 1)) (gap 1 (columnTo d 1))) (costTo d)) 8 d refl l))
+    rw (gap-shift a c (rowTo d 1) (h ∙ row-shift d a), gap-shift b e (columnTo d 1) (k ∙ column-shift d b)) (leb-true _ _ (all-at (λ d. leb (octile (gap 1 (rowTo d 1)) (gap 1 (columnTo d 1))) (costTo d)) 8 d refl l))
 
 -- and the step the other way leads back
 abbrev pub opposite : ℕ → ℕ

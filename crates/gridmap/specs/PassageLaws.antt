@@ -12,23 +12,23 @@ use Rattle.laws.specs.Count.{one, count, count-max, count-before, count-find}
 use Rattle.laws.specs.Gather.{gathered, gathered-length, gathered-piece}
 use Rattle.rule.specs.Task.{passageCount, near, far, cost}
 use Rattle.gridmap.specs.Map.{Map, stride, rowsRight, cellOf, rowOf, columnOf, stateCount}
-use Rattle.gridmap.specs.Passages.{free, isDiagonal, rowTo, columnTo, linked, costTo, stateAt, headingAt, rowAt, columnAt, isPassage, leadsTo, passage, passagesOf, passagesMany}
+use Rattle.gridmap.specs.Passages.{framed, free, isDiagonal, rowTo, columnTo, linked, costTo, comesFrom, headingAt, rowHere, columnHere, isPassage, leadsTo, passage, passagesOf, passagesMany}
 use Rattle.gridmap.specs.Estimates.{between}
 use Rattle.gridmap.specs.CellLaws.{cell-state}
-use Rattle.gridmap.specs.NeighbourLaws.{framed, Free, free-is, framed-row, framed-column, framed-state, framed-cell, unframed, cell-free, step-near, opposite, row-back, column-back, slant-back, linked-back}
+use Rattle.gridmap.specs.NeighbourLaws.{Free, free-is, framed-row, framed-column, framed-state, framed-cell, unframed, cell-free, step-near, opposite, row-back, column-back, slant-back, linked-back}
 
 -- where the j-th neighbour stands, as a framed row and column; and which neighbour leads back from there, the other way
 abbrev pub rowBeside : Map → ℕ → ℕ
-rowBeside m j = rowTo (headingAt j) (rowAt m j)
+rowBeside m j = rowTo (headingAt j) (rowHere m j)
 
 abbrev pub columnBeside : Map → ℕ → ℕ
-columnBeside m j = columnTo (headingAt j) (columnAt m j)
+columnBeside m j = columnTo (headingAt j) (columnHere m j)
 
 abbrev mirror : Map → ℕ → ℕ
 mirror m j = 8 * leadsTo m j + opposite (headingAt j)
 
 -- a passage leads from a state
-pub from-in : (m : Map) (j : ℕ) → j < 8 * stateCount m → stateAt j < stateCount m
+pub from-in : (m : Map) (j : ℕ) → j < 8 * stateCount m → comesFrom j < stateCount m
 from-in m j l = omega arith
 
 module _ (m : Map) (j : ℕ) (e : isPassage m j ≡ true) where
@@ -51,17 +51,17 @@ module _ (m : Map) (j : ℕ) (e : isPassage m j ≡ true) where
   to-column : columnOf m (cellOf m (leadsTo m j)) + 1 ≡ columnBeside m j
   to-column = rw to-cell (framed-column m _ _ end-free)
 
-  pub passage-near : between (stride m) (cellOf m (stateAt j)) (cellOf m (leadsTo m j)) ≤ costTo (headingAt j)
+  pub passage-near : between (stride m) (cellOf m (comesFrom j)) (cellOf m (leadsTo m j)) ≤ costTo (headingAt j)
   unfolding between
   passage-near =
-      step-near (headingAt j) (rowOf m (cellOf m (stateAt j))) (columnOf m (cellOf m (stateAt j))) (rowOf m (cellOf m (leadsTo m j))) (columnOf m (cellOf m (leadsTo m j)))
+      step-near (headingAt j) (rowOf m (cellOf m (comesFrom j))) (columnOf m (cellOf m (comesFrom j))) (rowOf m (cellOf m (leadsTo m j))) (columnOf m (cellOf m (leadsTo m j)))
       (omega arith) to-row to-column
 
   -- and the passage back is from there the other way
   mirror-in : mirror m j < 8 * stateCount m
   mirror-in = omega (arith, to-in)
 
-  mirror-from : stateAt (mirror m j) ≡ leadsTo m j
+  mirror-from : comesFrom (mirror m j) ≡ leadsTo m j
   mirror-from = omega arith
 
   mirror-heading : headingAt (mirror m j) ≡ opposite (headingAt j)
@@ -75,20 +75,20 @@ module _ (m : Map) (j : ℕ) (e : isPassage m j ≡ true) where
     unfolding isPassage
     mirror-passes r =
         rw (mirror-from, mirror-heading)
-        (linked-back m (headingAt j) (rowOf m (cellOf m (stateAt j))) (columnOf m (cellOf m (stateAt j))) (rowOf m (cellOf m (leadsTo m j))) (columnOf m (cellOf m (leadsTo m j)))
-        (omega arith) to-row to-column (cell-free m r (stateAt j) (from-in m j l)) e)
+        (linked-back m (headingAt j) (rowOf m (cellOf m (comesFrom j))) (columnOf m (cellOf m (comesFrom j))) (rowOf m (cellOf m (leadsTo m j))) (columnOf m (cellOf m (leadsTo m j)))
+        (omega arith) to-row to-column (cell-free m r (comesFrom j) (from-in m j l)) e)
 
-    mirror-to : leadsTo m (mirror m j) ≡ stateAt j
+    mirror-to : leadsTo m (mirror m j) ≡ comesFrom j
     unfolding leadsTo
     mirror-to =
         rw (
           mirror-from,
           mirror-heading,
-          row-back (headingAt j) (rowOf m (cellOf m (stateAt j))) (rowOf m (cellOf m (leadsTo m j))) (omega arith) to-row,
-          column-back (headingAt j) (columnOf m (cellOf m (stateAt j))) (columnOf m (cellOf m (leadsTo m j))) (omega arith) to-column,
-          unframed m (cellOf m (stateAt j)),
+          row-back (headingAt j) (rowOf m (cellOf m (comesFrom j))) (rowOf m (cellOf m (leadsTo m j))) (omega arith) to-row,
+          column-back (headingAt j) (columnOf m (cellOf m (comesFrom j))) (columnOf m (cellOf m (leadsTo m j))) (omega arith) to-column,
+          unframed m (cellOf m (comesFrom j)),
         )
-        (cell-state m (stateAt j) (from-in m j l))
+        (cell-state m (comesFrom j) (from-in m j l))
 
 -- no step costs more than 1,414
 pub cost-small : (d : ℕ) → costTo d ≤ 1414
@@ -102,7 +102,7 @@ cost-small d = go (isDiagonal d)
 pub record Listed (m : Map) (i j : ℕ) : Type 0 where
   pub inside : j < 8 * stateCount m
   pub passes : isPassage m j ≡ true
-  pub near-is : near (passagesOf m) i ≡ stateAt j
+  pub near-is : near (passagesOf m) i ≡ comesFrom j
   pub far-is : far (passagesOf m) i ≡ leadsTo m j
   pub cost-is : cost (passagesOf m) i ≡ costTo (headingAt j)
 
@@ -111,7 +111,7 @@ module _ (m : Map) where
   unfolding passage
   passage-length j = go (isPassage m j)
     where
-      go : (b : Bool) → length (cond b (stateAt j ∷ leadsTo m j ∷ costTo (headingAt j) ∷ []) []) ≡ 3 * one b
+      go : (b : Bool) → length (cond b (comesFrom j ∷ leadsTo m j ∷ costTo (headingAt j) ∷ []) []) ≡ 3 * one b
       go true = refl
       go false = refl
 
@@ -129,11 +129,11 @@ module _ (m : Map) where
   unfolding passagesMany
   passages-most = count-max (isPassage m) (8 * stateCount m)
 
-  passage-three : (j : ℕ) → isPassage m j ≡ true → passage m j ≡ stateAt j ∷ leadsTo m j ∷ costTo (headingAt j) ∷ []
+  passage-three : (j : ℕ) → isPassage m j ≡ true → passage m j ≡ comesFrom j ∷ leadsTo m j ∷ costTo (headingAt j) ∷ []
   unfolding passage
   passage-three j e = rw e
 
-  piece-at : (j k : ℕ) → j < 8 * stateCount m → isPassage m j ≡ true → k < 3 → getD (passagesOf m) (3 * count (isPassage m) j + k) 0 ≡ getD (stateAt j ∷ leadsTo m j ∷ costTo (headingAt j) ∷ []) k 0
+  piece-at : (j k : ℕ) → j < 8 * stateCount m → isPassage m j ≡ true → k < 3 → getD (passagesOf m) (3 * count (isPassage m) j + k) 0 ≡ getD (comesFrom j ∷ leadsTo m j ∷ costTo (headingAt j) ∷ []) k 0
   unfolding passagesOf
   piece-at j k l e h = gathered-piece (passage m) (isPassage m) 3 passage-length (8 * stateCount m) j k 0 l e h ∙ rw (passage-three j e)
 

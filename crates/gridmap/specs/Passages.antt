@@ -8,9 +8,12 @@ use Rattle.laws.specs.Count.{count}
 use Rattle.laws.specs.Gather.{gathered}
 use Rattle.gridmap.specs.Map.{Map, openAt, cellOf, rowOf, columnOf, placeOf, stateOf, stateCount}
 
--- the cell at a framed row and column is on the map, and open
+-- the place of a framed row and column, and whether the cell there is on the map and open
+abbrev pub framed : Map → ℕ → ℕ → ℕ
+framed m y x = placeOf m (y - 1) (x - 1)
+
 unfoldable pub free : Map → ℕ → ℕ → Bool
-free m y x = ((leb 1 y && leb y (m .height)) && (leb 1 x && leb x (m .width))) && openAt m (placeOf m (y - 1) (x - 1))
+free m y x = ((leb 1 y && leb y (m .height)) && (leb 1 x && leb x (m .width))) && openAt m (framed m y x)
 
 -- the directions: 0 N, 1 NE, 2 E, 3 SE, 4 S, 5 SW, 6 W, 7 NW
 abbrev pub isDiagonal : ℕ → Bool
@@ -30,32 +33,32 @@ linked m y x d = free m (rowTo d y) (columnTo d x) && (not (isDiagonal d) || (fr
 abbrev pub costTo : ℕ → ℕ
 costTo d = cond (isDiagonal d) 1414 1000
 
--- the j-th of all neighbours: state j / 8, in direction j % 8
-abbrev pub stateAt : ℕ → ℕ
-stateAt j = j / 8
+-- the j-th of all neighbours is that of state j / 8 in direction j % 8
+abbrev pub comesFrom : ℕ → ℕ
+comesFrom j = j / 8
 
 abbrev pub headingAt : ℕ → ℕ
 headingAt j = j % 8
 
--- its framed row and column
-abbrev pub rowAt : Map → ℕ → ℕ
-rowAt m j = rowOf m (cellOf m (stateAt j)) + 1
+-- the framed row and column of that state's cell
+abbrev pub rowHere : Map → ℕ → ℕ
+rowHere m j = rowOf m (cellOf m (comesFrom j)) + 1
 
-abbrev pub columnAt : Map → ℕ → ℕ
-columnAt m j = columnOf m (cellOf m (stateAt j)) + 1
+abbrev pub columnHere : Map → ℕ → ℕ
+columnHere m j = columnOf m (cellOf m (comesFrom j)) + 1
 
+-- whether a passage leads to the neighbour, and the state that it is
 unfoldable pub isPassage : Map → ℕ → Bool
-isPassage m j = linked m (rowAt m j) (columnAt m j) (headingAt j)
+isPassage m j = linked m (rowHere m j) (columnHere m j) (headingAt j)
 
--- the state that it leads to
 unfoldable pub leadsTo : Map → ℕ → ℕ
-leadsTo m j = stateOf m (placeOf m (rowTo (headingAt j) (rowAt m j) - 1) (columnTo (headingAt j) (columnAt m j) - 1))
+leadsTo m j = stateOf m (framed m (rowTo (headingAt j) (rowHere m j)) (columnTo (headingAt j) (columnHere m j)))
 
 -- from, to, cost; nothing where there is no passage
 unfoldable pub passage : Map → ℕ → List ℕ
-passage m j = cond (isPassage m j) (stateAt j ∷ leadsTo m j ∷ costTo (headingAt j) ∷ []) []
+passage m j = cond (isPassage m j) (comesFrom j ∷ leadsTo m j ∷ costTo (headingAt j) ∷ []) []
 
--- all of them, state by state
+-- all of them, state by state, and how many they are
 unfoldable pub passagesOf : Map → List ℕ
 passagesOf m = gathered (passage m) (8 * stateCount m)
 

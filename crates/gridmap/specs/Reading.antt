@@ -1,5 +1,5 @@
 -- Reading a map: the reply, and both slices. "Reply: the counts of cells and passages; places past them stay. Refusals, in order: 31 header, 32 row length, row count or character, 33 no open cell or more than 256, 34 a lent slice too short."
-use mathlib.Core.Bool.{Bool, _&&_, cond}
+use mathlib.Core.Bool.{Bool, _&&_}
 use mathlib.Core.List.{List}
 use Prim.Native.Nat.{ℕ, _*_}
 use lib.ListN.{length}
@@ -24,27 +24,26 @@ unfoldable pub roomy : Map → ℕ → ℕ → Bool
 roomy m passages estimates = leb (3 * passagesMany m) passages && leb (stateCount m * stateCount m) estimates
 
 -- what comes back, and the two slices
-pub record Reading : Type 0 where
+pub record MapReading : Type 0 where
   pub reply : Survey
   pub passages : List ℕ
   pub estimates : List ℕ
 
-abbrev pub unread : List ℕ → List ℕ → ℕ → Reading
-unread passages estimates number = record { reply = Refused number; passages = passages; estimates = estimates }
+abbrev pub mapRefused : List ℕ → List ℕ → ℕ → MapReading
+mapRefused passages estimates number = record { reply = Refused number; passages = passages; estimates = estimates }
 
-abbrev pub drawn : Map → List ℕ → List ℕ → Reading
+abbrev pub drawn : Map → List ℕ → List ℕ → MapReading
 drawn m passages estimates = record {
   reply = Drawn (stateCount m) (passagesMany m);
   passages = overlaid 0 (passagesOf m) passages;
   estimates = overlaid 0 (estimatesOf m) estimates;
 }
 
-unfoldable pub readMap : List ℕ → List ℕ → List ℕ → Reading
+unfoldable pub readMap : List ℕ → List ℕ → List ℕ → MapReading
 readMap text passages estimates =
-    cond (eqb (mapFault text) 0)
-    (provided (roomy (mapOf text) (length passages) (length estimates)) (unread passages estimates 34)
+    provided (eqb (mapFault text) 0) (mapRefused passages estimates (mapFault text))
+    (provided (roomy (mapOf text) (length passages) (length estimates)) (mapRefused passages estimates 34)
     (drawn (mapOf text) passages estimates))
-    (unread passages estimates (mapFault text))
 
 -- the row and column of a state, from 0: nowhere where the text is no map, or has no such state
 unfoldable pub spotOf : List ℕ → ℕ → Spot

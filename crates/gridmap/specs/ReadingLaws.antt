@@ -11,7 +11,7 @@ use Rattle.laws.specs.Truth.{and-left, and-right, provided-kept}
 use Rattle.gridmap.specs.declared.Head.{Head}
 use Rattle.gridmap.specs.Text.{headRight}
 use Rattle.gridmap.specs.Map.{mapOf, rowsRight, stateCount, countRight}
-use Rattle.gridmap.specs.Reading.{mapFault, roomy, unread, drawn, readMap}
+use Rattle.gridmap.specs.Reading.{mapFault, roomy, mapRefused, drawn, readMap}
 use Rattle.gridmap.specs.Laws.{mapWith}
 
 -- what a text has that none of 31 to 33 applies to
@@ -36,12 +36,12 @@ map-is text e =
 
 -- what comes back, by what applies
 module _ (text passages estimates : List ℕ) where
-  pub read-refused : (mapFault text ≡ 0 → ⊥) → readMap text passages estimates ≡ unread passages estimates (mapFault text)
+  pub read-refused : (mapFault text ≡ 0 → ⊥) → readMap text passages estimates ≡ mapRefused passages estimates (mapFault text)
   unfolding readMap
   read-refused n = rw (ne-eqb (mapFault text) 0 n)
 
   module _ (h : Head) (q : mapWith text h ≡ mapOf text) (e : mapFault text ≡ 0) where
-    pub read-short : roomy (mapWith text h) (length passages) (length estimates) ≡ false → readMap text passages estimates ≡ unread passages estimates 34
+    pub read-short : roomy (mapWith text h) (length passages) (length estimates) ≡ false → readMap text passages estimates ≡ mapRefused passages estimates 34
     unfolding readMap
     read-short r = rw (eq-eqb (mapFault text) 0 e, ← q, r)
 

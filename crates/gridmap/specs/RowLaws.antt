@@ -11,10 +11,10 @@ use Rattle.laws.specs.Part.{overlaid}
 use Rattle.laws.specs.Fill.{overlaid-front, overlaid-at}
 use Rattle.gridmap.specs.declared.Head.{Head}
 use Rattle.gridmap.specs.Map.{Map, places, cells, cellOf, stateOf, stateCount}
-use Rattle.gridmap.specs.Passages.{rowTo, columnTo, linked, isPassage, leadsTo}
+use Rattle.gridmap.specs.Passages.{framed, rowTo, columnTo, linked, isPassage, leadsTo}
 use Rattle.gridmap.specs.Laws.{mapWith, Small}
 use Rattle.gridmap.specs.CellLaws.{row-in, column-in, cells-length, cell-in, state-first}
-use Rattle.gridmap.specs.NeighbourLaws.{Free, framed, framed-in, framed-state}
+use Rattle.gridmap.specs.NeighbourLaws.{Free, framed-in, framed-state}
 use Rattle.gridmap.specs.PassageLaws.{end-free}
 
 -- an array that the cells were put to the front of

@@ -1,19 +1,18 @@
 -- The head of a map's text: "lines `type octile`, `height` and `width` each with one blank and a number from 1 to 256 without leading zeros, `map`, then rows; a line feed ends each line."
 use mathlib.Core.Bool.{Bool, _&&_, not, cond}
-use mathlib.Core.List.{List, [], _∷_}
+use mathlib.Core.List.{List}
 use Prim.Native.Nat.{ℕ, _+_, _*_, _-_}
+use Prim.Native.Char.{code}
 use lib.ListN.{length, getD}
 use lib.Dec.{leb, eqb}
 use Rattle.laws.specs.Fold.{fold}
 use Rattle.laws.specs.First.{first}
 use Rattle.laws.specs.All.{all}
+use Rattle.laws.specs.Ascii.{ascii}
 
 -- the byte at a place; 0 past the end, which stands for nothing in a map
 unfoldable pub byte : List ℕ → ℕ → ℕ
 byte text i = getD text i 0
-
-abbrev pub feed : ℕ
-feed = 10
 
 -- a word stands at a place
 unfoldable pub isWord : List ℕ → ℕ → List ℕ → Bool
@@ -21,7 +20,7 @@ isWord text at word = all (λ i. eqb (byte text (at + i)) (getD word i 0)) (leng
 
 -- the digit at a place; 10 where none stands there
 unfoldable pub digit : List ℕ → ℕ → ℕ
-digit text i = cond (leb 48 (byte text i) && leb (byte text i) 57) (byte text i - 48) 10
+digit text i = cond (leb (code "0") (byte text i) && leb (byte text i) (code "9")) (byte text i - code "0") 10
 
 -- how many digits stand from a place on, three at most
 unfoldable pub digits : List ℕ → ℕ → ℕ
@@ -39,19 +38,7 @@ size text at = number text at (digits text at)
 unfoldable pub isSize : List ℕ → ℕ → Bool
 isSize text at = not (eqb (digit text at) 0) && (leb 1 (size text at) && leb (size text at) 256)
 
--- "type octile", a line feed, "height "
-abbrev pub word-height : List ℕ
-word-height = 116 ∷ 121 ∷ 112 ∷ 101 ∷ 32 ∷ 111 ∷ 99 ∷ 116 ∷ 105 ∷ 108 ∷ 101 ∷ 10 ∷ 104 ∷ 101 ∷ 105 ∷ 103 ∷ 104 ∷ 116 ∷ 32 ∷ []
-
--- a line feed, "width "
-abbrev pub word-width : List ℕ
-word-width = 10 ∷ 119 ∷ 105 ∷ 100 ∷ 116 ∷ 104 ∷ 32 ∷ []
-
--- a line feed, "map", a line feed
-abbrev pub word-map : List ℕ
-word-map = 10 ∷ 109 ∷ 97 ∷ 112 ∷ 10 ∷ []
-
--- where each number stands, and the first row: after the words, and the digits before
+-- where each number stands, and the first row: behind the words, which take 19, 7 and 5 bytes, and the digits before
 abbrev pub heightAt : ℕ
 heightAt = 19
 
@@ -64,8 +51,8 @@ rowsAt text = widthAt text + digits text (widthAt text) + 5
 -- 31 "header"
 unfoldable pub headRight : List ℕ → Bool
 headRight text =
-    isWord text 0 word-height
+    isWord text 0 (ascii "type octile\nheight ")
     && (isSize text heightAt
-    && (isWord text (heightAt + digits text heightAt) word-width
+    && (isWord text (heightAt + digits text heightAt) (ascii "\nwidth ")
     && (isSize text (widthAt text)
-    && isWord text (widthAt text + digits text (widthAt text)) word-map)))
+    && isWord text (widthAt text + digits text (widthAt text)) (ascii "\nmap\n"))))

@@ -1,9 +1,8 @@
 // The rows of a map: whether they are right, and the places of the open cells.
 ghost use mathlib.Core.Path.{_≡_};
-ghost use Prim.Native.Nat.{_≤_, _<_};
+ghost use Prim.Native.Nat.{_≤_};
 ghost use lib.ListN.{length};
 ghost use Rattle.laws.specs.Part.{overlaid};
-ghost use Rattle.laws.specs.Count.{count};
 ghost use Rattle.gridmap.specs.Map.{isOpen, isClosed, rowsRight, cells, stateOf, stateCount, places};
 ghost use Rattle.gridmap.specs.Laws.{mapWith, Small};
 use super::Head;

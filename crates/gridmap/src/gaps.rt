@@ -3,7 +3,8 @@ ghost use mathlib.Core.Path.{_≡_};
 ghost use Prim.Native.Nat.{ℕ, _*_, _≤_, _<_};
 ghost use lib.ListN.{length, getD};
 ghost use Rattle.laws.specs.Part.{overlaid};
-ghost use Rattle.gridmap.specs.Estimates.{gap, octile, between, tableOf};
+ghost use Rattle.gridmap.specs.Estimates.{gap, octile, between};
+ghost use Rattle.gridmap.specs.Laws.{tableOf};
 
 // How far two coordinates are apart.
 pub fn gap(a: usize, b: usize) -> usize

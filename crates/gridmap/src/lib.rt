@@ -1,4 +1,4 @@
-// Maps drawn as text, read as the passages and estimates of a task: the plain map text of the public octile benchmarks.
+// Maps drawn as text, read as the passages and estimates of a task: the plain map text of the public octile grid benchmarks.
 ghost use mathlib.Core.Path.{_≡_};
 ghost use Rattle.gridmap.specs.Reading.{readMap, spotOf, stateAtSpot};
 

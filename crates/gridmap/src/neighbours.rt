@@ -6,7 +6,7 @@ ghost use lib.ListN.{length, getD};
 ghost use lib.Dec.{eqb};
 ghost use Rattle.laws.specs.First.{first};
 ghost use Rattle.laws.specs.Part.{overlaid};
-ghost use Rattle.gridmap.specs.Map.{cells, stateOf, places};
+ghost use Rattle.gridmap.specs.Map.{cells};
 ghost use Rattle.gridmap.specs.Passages.{free, rowTo, columnTo, linked, costTo, isPassage, leadsTo, passagesOf, passagesMany};
 ghost use Rattle.gridmap.specs.Laws.{mapWith, Small};
 use super::Head;

@@ -13,3 +13,4 @@ pub mod Fill
 pub mod Gather
 pub mod Put
 pub mod Map
+pub mod Ascii

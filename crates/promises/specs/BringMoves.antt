@@ -118,19 +118,19 @@ module _ {passages estimates : List ℕ} {p l i : ℕ} {m : Machine} (z : Passin
     low = omega (arith, z .sure .task .right .states, z .sure .task .consistent .ends i j)
 
     pub lowered-now : markOf (lowered passages l i m) q ≡ 1
-    lowered-now = getD-set-same (m .mark) q waiting 0 (omega (arith, low, z .sure .sized .mark))
+    lowered-now = getD-set-same (m .mark) q waiting 0 (omega (arith, low, z .sure .sized .marks))
 
     pub lowered-else : (x : ℕ) → x ≢ q → markOf (lowered passages l i m) x ≡ markOf m x
     lowered-else x d = getD-set-other (m .mark) q x waiting 0 d
 
     new : labelOf (lowered passages l i m) q ≡ l + cost passages i
-    new = getD-set-same (m .label) q (l + cost passages i) 0 (omega (arith, low, z .sure .sized .label))
+    new = getD-set-same (m .label) q (l + cost passages i) 0 (omega (arith, low, z .sure .sized .labels))
 
     pub label-else : (x : ℕ) → x ≢ q → labelOf (lowered passages l i m) x ≡ labelOf m x
     label-else x d = getD-set-other (m .label) q x (l + cost passages i) 0 d
 
     way : viaOf (lowered passages l i m) q ≡ i
-    way = getD-set-same (m .via) q i 0 (omega (arith, low, z .sure .sized .via))
+    way = getD-set-same (m .via) q i 0 (omega (arith, low, z .sure .sized .vias))
 
     -- it was unseen or open, and where it was seen its label was greater
     pub free : markOf m q ≤ 1
@@ -177,10 +177,10 @@ module _ {passages estimates : List ℕ} {p l i : ℕ} {m : Machine} (z : Passin
       sure = record {
         task = z .sure .task;
         sized = record {
-          mark = length-set (m .mark) q waiting ∙ z .sure .sized .mark;
-          label = length-set (m .label) q (l + cost passages i) ∙ z .sure .sized .label;
-          via = length-set (m .via) q i ∙ z .sure .sized .via;
-          held = z .sure .sized .held;
+          marks = length-set (m .mark) q waiting ∙ z .sure .sized .marks;
+          labels = length-set (m .label) q (l + cost passages i) ∙ z .sure .sized .labels;
+          vias = length-set (m .via) q i ∙ z .sure .sized .vias;
+          workers = z .sure .sized .workers;
         };
         marks = at-or q (omega (arith, lowered-now)) (λ x d. omega (arith, lowered-else x d, z .sure .marks x));
         good = good-on passages estimates m (z .sure .task) (z .sure .good) touch-step;
@@ -254,7 +254,7 @@ finishedBy worker p m = withHeld (withMark m p finished) worker none
 
 module _ {passages estimates : List ℕ} {p l : ℕ} {m : Machine} (z : Passing passages estimates p l (passageCount passages) m) (worker : ℕ) where
   pub finished-now : markOf (finishedBy worker p m) p ≡ 3
-  finished-now = getD-set-same (m .mark) p finished 0 (omega (arith, z .sure .sized .mark, seen-in (z .sure) p (omega (arith, z .out))))
+  finished-now = getD-set-same (m .mark) p finished 0 (omega (arith, z .sure .sized .marks, seen-in (z .sure) p (omega (arith, z .out))))
 
   pub finished-else : (x : ℕ) → x ≢ p → markOf (finishedBy worker p m) x ≡ markOf m x
   finished-else x d = getD-set-other (m .mark) p x finished 0 d
@@ -283,10 +283,10 @@ module _ {passages estimates : List ℕ} {p l : ℕ} {m : Machine} (z : Passing 
   finished-sure = record {
     task = z .sure .task;
     sized = record {
-      mark = length-set (m .mark) p finished ∙ z .sure .sized .mark;
-      label = z .sure .sized .label;
-      via = z .sure .sized .via;
-      held = length-set (m .held) worker none ∙ z .sure .sized .held;
+      marks = length-set (m .mark) p finished ∙ z .sure .sized .marks;
+      labels = z .sure .sized .labels;
+      vias = z .sure .sized .vias;
+      workers = length-set (m .held) worker none ∙ z .sure .sized .workers;
     };
     marks = at-or p (omega (arith, finished-now)) (λ x d. omega (arith, finished-else x d, z .sure .marks x));
     good = good-on passages estimates m (z .sure .task) (z .sure .good) finish-step;

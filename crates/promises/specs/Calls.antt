@@ -1,26 +1,34 @@
--- A worker's call, by cases: refused with the machine as it was, or a step of Take, or a Bring of an out state. What holds of the three holds of every call.
-use mathlib.Core.Path.{_≡_}
+-- Calls by cases. A worker's call: refused with the machine as it was, or a step of Take, or a Bring of an out state. A morning: refused, or served.
+-- What holds of each case holds of every call.
+use mathlib.Core.Path.{_≡_, refl, sym, subst⁻¹, _∙_}
+use mathlib.Core.Logic.{_≢_}
 use mathlib.Core.Bool.{Bool, true, not}
-use mathlib.Core.List.{List}
-use Prim.Native.Nat.{ℕ, _≤_}
+use mathlib.Core.List.{List, map}
+use Prim.Native.Nat.{ℕ, zero, suc, _≤_}
 use native.Mathlib.Omega.{arith}
-use lib.Dec.{ltb, eqb}
+use lib.ListN.{length}
+use lib.Dec.{ltb, leb, eqb}
 use borrow.Author.Tests.{ltb-true, eqb-true, eqb-false, not-true}
 use Rattle.laws.specs.Truth.{provided-either}
+use Rattle.laws.specs.Part.{overlaid}
 use Rattle.rule.specs.Marks.{none, out}
+use Rattle.rule.specs.Refusals.{unfit, noWorker, notSearching, wrongHands, nothingOut, shortRow, noEvent}
 use Rattle.checks.specs.Laws.{worker-holds}
 use Rattle.dealing.specs.declared.Decision.{Decision}
 use Rattle.dealing.specs.Decision.{decision}
 use Rattle.desk.specs.declared.Machine.{Machine}
+use Rattle.desk.specs.declared.Reply.the-variants.{Done}
 use Rattle.desk.specs.declared.Answer.{Answer}
-use Rattle.desk.specs.Reply.{refused}
+use Rattle.desk.specs.Reply.{answer, refused, codeOf}
 use Rattle.desk.specs.Machine.{markOf, heldBy, boardOf}
 use Rattle.desk.specs.Fits.{fits}
 use Rattle.desk.specs.Admission.{admitted}
 use Rattle.desk.specs.Take.{act, takeStep, takeOf}
 use Rattle.desk.specs.Bring.{sweepOf, finish, bringStep, bringOf}
-use Rattle.desk.specs.Calls.{Event, take, bring, call}
+use Rattle.desk.specs.Calls.{Event, take, bring, call, replies, after}
+use Rattle.desk.specs.Morning.{eventsOf, eventsRight, morningFault, Morning, morningOf}
 use Rattle.desk.specs.Laws.{Admitted, fitting}
+use Rattle.desk.specs.CallLaws.{morning-refused, morning-served}
 use Rattle.promises.specs.Progress.{Chosen, chosen}
 
 module _ (passages estimates : List ℕ) (m : Machine) (P : Answer → Type 0) where
@@ -28,10 +36,10 @@ module _ (passages estimates : List ℕ) (m : Machine) (P : Answer → Type 0) w
       → (Admitted m passages estimates worker → ready ≡ true → P given) → P (admitted m passages estimates worker ready given)
   unfolding admitted
   admitted-either worker ready given r c =
-      provided-either P (fits m passages estimates) (refused m 8) _ (r 8 (omega arith)) (λ f.
-      provided-either P (ltb worker (m .k)) (refused m 9) _ (r 9 (omega arith)) (λ l.
-      provided-either P (eqb (m .phase) 0) (refused m 10) _ (r 10 (omega arith)) (λ p.
-      provided-either P ready (refused m 11) given (r 11 (omega arith)) (λ e.
+      provided-either P (fits m passages estimates) _ _ (r unfit (omega arith)) (λ f.
+      provided-either P (ltb worker (m .k)) _ _ (r noWorker (omega arith)) (λ l.
+      provided-either P (eqb (m .phase) 0) _ _ (r notSearching (omega arith)) (λ p.
+      provided-either P ready _ given (r wrongHands (omega arith)) (λ e.
       c (record { fit = f; worker-in = ltb-true worker (m .k) l; searching = eqb-true (m .phase) 0 p }) e))))
 
   -- the state that a worker of a machine that fits holds is out
@@ -51,3 +59,21 @@ module _ (passages estimates : List ℕ) (m : Machine) (P : Answer → Type 0) w
   call-either r t b (bring worker) =
       admitted-either worker (not (eqb (heldBy m worker) none)) (bringStep m passages worker) r
       (λ a e. b worker a (held-out worker a (eqb-false (heldBy m worker) none (not-true (eqb (heldBy m worker) none) e))))
+
+-- a morning is refused with 16 or 18, if at all
+morning-never : (events : List ℕ) (places : ℕ) → morningFault events places ≢ nothingOut
+unfolding morningFault
+morning-never events places =
+    provided-either (λ k. k ≢ nothingOut) (leb (length events) places) shortRow _ (omega arith) (λ _. provided-either (λ k. k ≢ nothingOut) (eventsRight events) noEvent 0 (omega arith) (λ _. omega arith))
+
+-- what holds of a refusal, which is never 12, and of a morning that was served
+pub morning-either : (passages estimates : List ℕ) (m : Machine) (events row : List ℕ) (P : Morning → Type 0)
+    → ((number : ℕ) → number ≢ nothingOut → P (record { given = refused m number; row = row }))
+    → P (record { given = answer (after passages estimates m (eventsOf events)) Done; row = overlaid 0 (map codeOf (replies passages estimates m (eventsOf events))) row })
+    → P (morningOf m passages estimates events row)
+morning-either passages estimates m events row P r s = go (morningFault events (length row)) refl
+  where
+    go : (number : ℕ) → number ≡ morningFault events (length row) → P (morningOf m passages estimates events row)
+    go zero q = subst⁻¹ P (morning-served m passages estimates events row 0 q refl) s
+    go (suc k) q =
+        subst⁻¹ P (morning-refused m passages estimates events row (suc k) q (λ z. omega arith)) (r (suc k) (λ e. morning-never events (length row) (sym q ∙ e)))

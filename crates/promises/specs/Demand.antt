@@ -1,43 +1,33 @@
--- Demand 3, as statements about the desk's definitions: runs from an accepted opening, routes, and what is promised of them.
+-- Demand 3, as statements about the desk's definitions: days from an accepted opening, routes, and what is promised of them.
 use mathlib.Core.Path.{_≡_}
-use mathlib.Core.Bool.{cond, true, false}
+use mathlib.Core.Bool.{cond, true}
 use mathlib.Core.Logic.{_≢_}
-use mathlib.Core.List.{List, [], _∷_, _++_, map}
+use mathlib.Core.List.{List, [], _∷_, map}
 use Prim.Native.Nat.{ℕ, _+_, _-_, _*_, _≤_, _<_}
 use lib.ListN.{length, getD, take, drop}
 use lib.Dec.{eqb}
 use Rattle.laws.specs.Part.{overlaid}
 use Rattle.rule.specs.Task.{passageCount, near, far, cost, isClear, estimate}
 use Rattle.rule.specs.Marks.{waiting, out, isLive}
+use Rattle.rule.specs.Refusals.{nothingOut}
 use Rattle.argument.specs.Route.{Graph, Walk, costOf}
 use Rattle.checks.specs.Opening.{Task}
-use Rattle.dealing.specs.Board.{key, dependsOn}
-use Rattle.trail.specs.Trail.{stateBack}
+use Rattle.dealing.specs.Board.{key}
 use Rattle.desk.specs.declared.Machine.{Machine}
 use Rattle.desk.specs.declared.Reply.{Reply}
 use Rattle.desk.specs.declared.Reply.the-variants.{Opened, Found, NoPath, Read, Refused}
-use Rattle.desk.specs.declared.Answer.{Answer}
 use Rattle.desk.specs.Machine.{markOf, labelOf, boardOf}
 use Rattle.desk.specs.Reply.{answer, took, when, replyOf}
 use Rattle.desk.specs.Fits.{fits}
 use Rattle.desk.specs.Opening.{openingOf}
 use Rattle.desk.specs.Path.{pathOf}
-use Rattle.desk.specs.Calls.{Event, call, replies, after}
+use Rattle.desk.specs.Calls.{replies, after}
 use Rattle.desk.specs.Morning.{eventsOf, Morning}
+use Rattle.promises.specs.Day.{Call, reached, said, Said}
 
 -- "a task that opening accepts"
 abbrev pub Accepted : Task → Type 0
 Accepted t = openingOf t .reply ≡ Opened
-
--- "any sequence of calls (refused ones too), each given that task and the machine last handed back": the machine then, the replies, and the answer to one call more
-abbrev pub reached : Task → List Event → Machine
-reached t events = after (t .passages) (t .estimates) (openingOf t .machine) events
-
-abbrev pub said : Task → List Event → List Reply
-said t events = replies (t .passages) (t .estimates) (openingOf t .machine) events
-
-abbrev pub next : Task → List Event → Event → Answer
-next t events e = call (t .passages) (t .estimates) (reached t events) e
 
 -- the task's passages as a graph; order 4: a blocked passage "is no part of any route"
 abbrev pub graph : Task → Graph
@@ -73,24 +63,24 @@ pub record PathRight (t : Task) (m : Machine) (c : ℕ) : Type 0 where
       → pathOf m (t .passages) (t .estimates) buffer at ≡ record { given = answer m (Read (length (along t way))); buffer = overlaid at (along t way) buffer }
   pub within : (other : List ℕ) → IsRoute t other → 100 * c ≤ t .excess * routeCost t other
 
--- demand 3
+-- demand 3: "For a task that opening accepts and any sequence of calls (refused ones too), each given that task and the machine last handed back"
 pub record Demand3 (t : Task) : Type 0 where
   -- "no junction is dealt twice"
-  pub once : (events : List Event) (s : ℕ) → timesDealt s (said t events) ≤ 1
-  -- a call that replies Found, whatever calls come after it
-  pub found : (events : List Event) (e : Event) (later : List Event) (c : ℕ) → next t events e .reply ≡ Found c → PathRight t (reached t (events ++ (e ∷ later))) c
+  pub once : (day : List Call) (s : ℕ) → timesDealt s (said t day) ≤ 1
+  -- after Found, whatever calls came later
+  pub found : (day : List Call) (c : ℕ) → Said t day (Found c) → PathRight t (reached t day) c
   -- "NoPath only where no route exists"
-  pub nopath : (events : List Event) (e : Event) → next t events e .reply ≡ NoPath → (way : List ℕ) → IsRoute t way → ⊥
+  pub nopath : (day : List Call) → Said t day NoPath → (way : List ℕ) → IsRoute t way → ⊥
 
 -- and what goes with it
 pub record Kept (t : Task) : Type 0 where
   -- 8 never comes for a machine that was reached
-  pub fitting : (events : List Event) → fits (reached t events) (t .passages) (t .estimates) ≡ true
+  pub fitting : (day : List Call) → fits (reached t day) (t .passages) (t .estimates) ≡ true
   -- nor does 12
-  pub moving : (events : List Event) (e : Event) → next t events e .reply ≢ Refused 12
+  pub moving : (day : List Call) → Said t day (Refused nothingOut) → ⊥
   -- the goal is never dealt, and the start stays at label 0
-  pub aim : (events : List Event) → timesDealt (t .goal) (said t events) ≡ 0
-  pub root : (events : List Event) → labelOf (reached t events) (t .start) ≡ 0
+  pub aim : (day : List Call) → timesDealt (t .goal) (said t day) ≡ 0
+  pub root : (day : List Call) → labelOf (reached t day) (t .start) ≡ 0
 
 -- Order 1, who a Wait is for: of every machine, whatever is lent.
 -- s is the open state with the smallest key, "lowest number among equal keys"
@@ -100,11 +90,12 @@ pub record Foremost (m : Machine) (estimates : List ℕ) (s : ℕ) : Type 0 wher
   pub smallest : (x : ℕ) → x < m .n → markOf m x ≡ waiting → key (m .goal) (m .pull) (boardOf m estimates) s ≤ key (m .goal) (m .pull) (boardOf m estimates) x
   pub lowest : (x : ℕ) → x < s → markOf m x ≡ waiting → key (m .goal) (m .pull) (boardOf m estimates) s < key (m .goal) (m .pull) (boardOf m estimates) x
 
--- t is the lowest-numbered state that s depends on, and another than s: 100 × (label s − label t) is above E × h(t,s)
+-- t is the lowest-numbered state that s depends on, and another than s: 100 × (label s − label t) is above E × h(t,s),
+-- and at most E × h(x,s) for every other open or out state x below t
 pub record HeldUp (m : Machine) (estimates : List ℕ) (s t : ℕ) : Type 0 where
   pub other : t ≢ s
   pub behind : 100 * labelOf m t + m .excess * estimate estimates (m .n) t s < 100 * labelOf m s
-  pub lowest : (x : ℕ) → x < t → dependsOn (boardOf m estimates) s x ≡ false
+  pub lowest : (x : ℕ) → x < t → x ≢ s → isLive (markOf m x) ≡ true → 100 * labelOf m s ≤ 100 * labelOf m x + m .excess * estimate estimates (m .n) x s
 
 -- what Wait says by naming t
 pub record WaitsFor (m : Machine) (estimates : List ℕ) (t : ℕ) : Type 0 where
@@ -124,12 +115,12 @@ pub record AsSingly (passages estimates : List ℕ) (m : Machine) (events row : 
   pub replied : map replyOf (take (length events) (o .row)) ≡ replies passages estimates m (eventsOf events)
   pub behind : drop (length events) (o .row) ≡ drop (length events) row
 
--- so demand 3 speaks of a morning's replies too: a morning from a machine that was reached is more of the same run
-pub record MorningRuns (t : Task) (so-far : List Event) (events : List ℕ) (o : Morning) : Type 0 where
-  pub machine : o .given .machine ≡ reached t (so-far ++ eventsOf events)
-  pub replied : said t (so-far ++ eventsOf events) ≡ said t so-far ++ map replyOf (take (length events) (o .row))
-
--- Order 4, blocked means blocked: a path that is read out, of whatever machine, uses no blocked passage. Each state but the start came by a passage that isn't blocked.
-pub record NoneBlocked (passages : List ℕ) (m : Machine) (many : ℕ) : Type 0 where
-  pub passage : (i : ℕ) → i + 1 < many → getD (m .via) (stateBack passages (m .via) (m .goal) i) 0 < passageCount passages
-  pub clear : (i : ℕ) → i + 1 < many → isClear passages (getD (m .via) (stateBack passages (m .via) (m .goal) i) 0) ≡ true
+-- Order 4, blocked means blocked: what path reading wrote, on whatever machine, leads from the start to the goal, from each state to the next by a passage of the task that isn't blocked.
+-- The states stand in the buffer from the place `at` on, `many` of them.
+pub record NoneBlocked (passages : List ℕ) (m : Machine) (buffer : List ℕ) (at many : ℕ) : Type 0 where
+  pub some : 1 ≤ many
+  pub room : at + many ≤ length buffer
+  pub first : getD buffer at 0 ≡ m .start
+  pub last : getD buffer (at + (many - 1)) 0 ≡ m .goal
+  pub clear : (i : ℕ) → i + 1 < many
+      → (p : ℕ) × (p < passageCount passages) × (isClear passages p ≡ true) × (near passages p ≡ getD buffer (at + i) 0) × (far passages p ≡ getD buffer (at + i + 1) 0)

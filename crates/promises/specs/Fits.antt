@@ -41,7 +41,7 @@ use Rattle.promises.specs.Calls.{call-either}
 use Rattle.promises.specs.Holding.{Holding, holding-take, holding-give, holding-same}
 
 -- the invariant with what 8 asks of the machine besides; unseen states have label 0
-pub record Whole (passages estimates : List ℕ) (m : Machine) : Type 0 where
+pub record Steady (passages estimates : List ℕ) (m : Machine) : Type 0 where
   pub sure : Sure passages estimates m
   pub phase : m .phase ≤ 2
   pub blank : (s : ℕ) → markOf m s ≡ 0 → labelOf m s ≡ 0
@@ -70,10 +70,10 @@ module _ (t : Task) (a : Sound t) where
   opened-sure = record {
     task = a;
     sized = record {
-      mark = length-set {A = ℕ} (replicate 256 0) (t .start) 1 ∙ length-replicate {A = ℕ} 256 0;
-      label = length-replicate {A = ℕ} 256 0;
-      via = length-replicate 256 none;
-      held = length-replicate 32 none;
+      marks = length-set {A = ℕ} (replicate 256 0) (t .start) 1 ∙ length-replicate {A = ℕ} 256 0;
+      labels = length-replicate {A = ℕ} 256 0;
+      vias = length-replicate 256 none;
+      workers = length-replicate 32 none;
     };
     marks = λ s. omega (arith, opened-low s);
     good = good-fresh (graph t) (t .n) (t .excess) (t .start) (t .goal) (passageCount (t .passages)) (between (t .passages) (openedMachine t)) (λ i (l, _). l) (record {
@@ -86,9 +86,9 @@ module _ (t : Task) (a : Sound t) where
     });
   }
 
-  pub opened-whole : Whole (t .passages) (t .estimates) (openedMachine t)
+  pub opened-steady : Steady (t .passages) (t .estimates) (openedMachine t)
   unfolding openedMachine
-  opened-whole = record {
+  opened-steady = record {
     sure = opened-sure;
     phase = omega arith;
     blank = λ s e. zeros 256 s;
@@ -101,26 +101,26 @@ module _ (t : Task) (a : Sound t) where
   }
 
 -- Take keeps it
-module _ {passages estimates : List ℕ} {m : Machine} (z : Whole passages estimates m) (worker : ℕ) (l : worker < m .k) (e : heldBy m worker ≡ none) where
+module _ {passages estimates : List ℕ} {m : Machine} (z : Steady passages estimates m) (worker : ℕ) (l : worker < m .k) (e : heldBy m worker ≡ none) where
   deal-held : (s : ℕ) → safe (boardOf m estimates) s ≡ true → Holding (m .n) (m .k) none (heldBy (dealt m worker s)) (markOf (dealt m worker s))
   deal-held s k =
       let is : markOf m s ≡ 1 = safe-is-open (boardOf m estimates) s k in
-      let mine : heldBy (dealt m worker s) worker ≡ s = getD-set-same (m .held) worker s 0 (omega (arith, z .sure .sized .held, z .sure .task .right .workers)) in
+      let mine : heldBy (dealt m worker s) worker ≡ s = getD-set-same (m .held) worker s 0 (omega (arith, z .sure .sized .workers, z .sure .task .right .workers)) in
       holding-take (m .n) (m .k) none (heldBy m) (markOf m) (heldBy (dealt m worker s)) (markOf (dealt m worker s)) (z .hold) worker s l
       (λ x d. getD-set-other (m .held) worker x s 0 d) e (z .sure .good .frontier .inside s (omega arith)) (omega arith) mine
       (dealt-now (z .sure) worker s k) (dealt-else (z .sure) worker s k)
 
-  act-whole : (d : Decision) → Chosen (m .goal) (m .pull) (boardOf m estimates) d → Whole passages estimates (act m worker d .machine)
-  act-whole (Found cost) k = record { sure = act-sure (z .sure) worker (Found cost) k; phase = omega arith; blank = z .blank; hold = z .hold }
-  act-whole NoPath k = record { sure = act-sure (z .sure) worker NoPath k; phase = omega arith; blank = z .blank; hold = z .hold }
-  act-whole (Deal s) k = record {
+  act-steady : (d : Decision) → Chosen (m .goal) (m .pull) (boardOf m estimates) d → Steady passages estimates (act m worker d .machine)
+  act-steady (Found cost) k = record { sure = act-sure (z .sure) worker (Found cost) k; phase = omega arith; blank = z .blank; hold = z .hold }
+  act-steady NoPath k = record { sure = act-sure (z .sure) worker NoPath k; phase = omega arith; blank = z .blank; hold = z .hold }
+  act-steady (Deal s) k = record {
     sure = act-sure (z .sure) worker (Deal s) k;
     phase = z .phase;
     blank = at-or s (λ q. absurd (omega (arith, dealt-now (z .sure) worker s (k .0)))) (λ x d q. z .blank x (sym (dealt-else (z .sure) worker s (k .0) x d) ∙ q));
     hold = deal-held s (k .0);
   }
-  act-whole Stuck k = z
-  act-whole (Wait s) k = z
+  act-steady Stuck k = z
+  act-steady (Wait s) k = z
 
 -- what a pass over the state p that the worker holds keeps besides the invariant
 record Carrying (worker p : ℕ) (m : Machine) : Type 0 where
@@ -145,11 +145,11 @@ carrying passages estimates worker p l i m z j from e c =
 
 -- giving it back keeps it all
 given-back : {passages estimates : List ℕ} {p l : ℕ} {m : Machine} (worker : ℕ) → Passing passages estimates p l (passageCount passages) m → Carrying worker p m
-    → Whole passages estimates (finishedBy worker p m)
+    → Steady passages estimates (finishedBy worker p m)
 given-back {p = p} {m = m} worker z c =
     let now : markOf (finishedBy worker p m) p ≡ 3 = finished-now z worker in
     let empty : heldBy (finishedBy worker p m) worker ≡ none =
-    getD-set-same (m .held) worker none 0 (omega (arith, c .inside, z .sure .sized .held, z .sure .task .right .workers)) in
+    getD-set-same (m .held) worker none 0 (omega (arith, c .inside, z .sure .sized .workers, z .sure .task .right .workers)) in
     record {
       sure = finished-sure z worker;
       phase = c .phase;
@@ -158,19 +158,19 @@ given-back {p = p} {m = m} worker z c =
           (λ x d. getD-set-other (m .held) worker x none 0 d) (c .mine) (z .out) empty (omega arith) (finished-else z worker);
     }
 
-module _ {passages estimates : List ℕ} {m : Machine} (z : Whole passages estimates m) where
-  bring-whole : (worker : ℕ) → worker < m .k → markOf m (heldBy m worker) ≡ 2
-      → Whole passages estimates (finish worker (heldBy m worker) (sweepOf m passages (heldBy m worker)) .machine)
-  bring-whole worker l o =
+module _ {passages estimates : List ℕ} {m : Machine} (z : Steady passages estimates m) where
+  bring-steady : (worker : ℕ) → worker < m .k → markOf m (heldBy m worker) ≡ 2
+      → Steady passages estimates (finish worker (heldBy m worker) (sweepOf m passages (heldBy m worker)) .machine)
+  bring-steady worker l o =
       let p : ℕ = heldBy m worker in
       let (passed, carried) = sweep-keeps (z .sure) p o (Carrying worker p) (carrying passages estimates worker p (labelOf m p))
       (record { inside = l; mine = refl; phase = z .phase; blank = z .blank; hold = z .hold }) in
       given-back worker passed carried
 
-  pub call-whole : (e : Event) → Whole passages estimates (call passages estimates m e .machine)
-  call-whole = call-either passages estimates m (λ a. Whole passages estimates (a .machine)) (λ number l. z)
-      (λ worker a e d k. act-whole z worker (a .worker-in) e d k)
-      (λ worker a o. bring-whole worker (a .worker-in) o)
+  pub call-steady : (e : Event) → Steady passages estimates (call passages estimates m e .machine)
+  call-steady = call-either passages estimates m (λ a. Steady passages estimates (a .machine)) (λ number l. z)
+      (λ worker a e d k. act-steady z worker (a .worker-in) e d k)
+      (λ worker a o. bring-steady worker (a .worker-in) o)
 
   -- how many states were dealt before
   abbrev dealtCount : ℕ
@@ -191,9 +191,9 @@ module _ {passages estimates : List ℕ} {m : Machine} (z : Whole passages estim
           let cheap : labelOf m s ≤ k * 1000000 = chain-cost (graph (taskOf m passages estimates)) (m .start) (between passages m) 1000000 (z .sure .task .costs) s k c in
           omega (arith, short k d f (decLe 2 (markOf m s)))
 
-  pub whole-fits : fits m passages estimates ≡ true
+  pub steady-fits : fits m passages estimates ≡ true
   unfolding fits marksRight labelsRight workersRight holders heldOnce
-  whole-fits =
+  steady-fits =
       and-both (eq-eqb (earlyFault (taskOf m passages estimates)) 0 (z .sure .task .early))
       (and-both (le-leb (m .phase) 2 (z .phase))
       (and-both (all-of (λ s. isMark (getD (m .mark) s 0)) (m .n) (λ s l. le-leb (markOf m s) 3 (z .sure .marks s)))

@@ -1,4 +1,5 @@
--- Demand 3 and what goes with it. `Demand` has the statements and is what a reader has to believe; the other files prove them.
+-- Demand 3 and what goes with it. `Day` and `Demand` have the statements and are what a reader has to believe; the other files prove them.
+pub mod Day
 pub mod Demand
 pub mod Accepted
 pub mod View
@@ -10,9 +11,9 @@ pub mod Holding
 pub mod Fits
 pub mod Reading
 pub mod Once
-pub mod Runs
 pub mod Replies
 pub mod Waiting
 pub mod Mornings
+pub mod Runs
 pub mod Blocked
 pub mod Theorem

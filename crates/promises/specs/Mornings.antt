@@ -1,36 +1,34 @@
 -- A morning is its calls made singly: each reply comes back from its number in the row, since no call replies with a number above 32 bits.
-use mathlib.Core.Path.{_≡_, refl, sym, ap, subst⁻¹, _∙_}
+use mathlib.Core.Path.{_≡_, refl, subst⁻¹, _∙_}
 use mathlib.Core.Bool.{Bool, true, false, _&&_, cond}
-use mathlib.Core.List.{List, [], _∷_, _++_, map}
+use mathlib.Core.List.{List, [], _∷_, map}
 use Prim.Native.Nat.{ℕ, zero, suc, _+_, _≤_, _<_}
 use native.Mathlib.Nat.{zero-add}
 use native.Mathlib.Omega.{arith}
-use lib.ListN.{length, getD, drop, length-map}
+use lib.ListN.{length, getD, take, drop, length-map}
 use lib.Seq.{take-at, drop-at}
 use lib.Dec.{eqb}
 use Rattle.laws.specs.Fold.{fold}
+use Rattle.laws.specs.Part.{overlaid}
 use Rattle.rule.specs.Task.{passageCount, near, far, cost, isClear}
 use Rattle.rule.specs.Rule.{lowers}
-use Rattle.checks.specs.Opening.{Task}
 use Rattle.checks.specs.Laws.{label-low}
 use Rattle.dealing.specs.declared.Decision.{Decision}
 use Rattle.dealing.specs.declared.Decision.the-variants.{Found, NoPath, Deal, Stuck, Wait}
 use Rattle.desk.specs.declared.Machine.{Machine}
 use Rattle.desk.specs.declared.Swept.{Swept}
-use Rattle.desk.specs.declared.Reply.{Reply}
 use Rattle.desk.specs.declared.Reply.the-variants.{Done}
 use Rattle.desk.specs.Machine.{labelOf, heldBy, boardOf}
 use Rattle.desk.specs.Reply.{valueOf, codeOf, replyOf}
-use Rattle.desk.specs.Opening.{openingOf}
 use Rattle.desk.specs.Take.{act}
 use Rattle.desk.specs.Bring.{swept, labelled, applyPassage, sweepOf}
 use Rattle.desk.specs.Calls.{Event, call, answers, replies}
-use Rattle.desk.specs.Morning.{eventsOf, Morning, morningFault, morningOf}
+use Rattle.desk.specs.Morning.{eventsOf, morningOf}
 use Rattle.desk.specs.Laws.{Admitted, fitting}
-use Rattle.desk.specs.CallLaws.{after-append, replies-append, replies-length, morning-clear, morning-served, code-back}
-use Rattle.promises.specs.Demand.{reached, said, WaitsFor, AsSingly, MorningRuns}
+use Rattle.desk.specs.CallLaws.{replies-length, code-back}
+use Rattle.promises.specs.Demand.{WaitsFor, AsSingly}
 use Rattle.promises.specs.Progress.{Chosen}
-use Rattle.promises.specs.Calls.{call-either}
+use Rattle.promises.specs.Calls.{call-either, morning-either}
 use Rattle.promises.specs.Waiting.{wait-right}
 
 -- going over the passages sets at most one label for each
@@ -80,27 +78,24 @@ replies-back passages estimates m [] = refl
 replies-back passages estimates m (e ∷ es) =
     rw (code-back (call passages estimates m e .reply) (reply-small passages estimates m e), replies-back passages estimates (call passages estimates m e .machine) es)
 
+-- and stand at the front of the row, as they were
+module _ (passages estimates : List ℕ) (m : Machine) (events row : List ℕ) where
+  abbrev codes : List ℕ
+  codes = map codeOf (replies passages estimates m (eventsOf events))
+
+  codes-length : length codes ≡ length events
+  unfolding eventsOf
+  codes-length = length-map (replies passages estimates m (eventsOf events)) codeOf ∙ replies-length passages estimates m (eventsOf events) ∙ length-map events _
+
+  pub row-back : map replyOf (take (length events) (overlaid 0 codes row)) ≡ replies passages estimates m (eventsOf events)
+  row-back = rw (take-at codes (drop (0 + length codes) row) (length events) codes-length) (replies-back passages estimates m (eventsOf events))
+
+  row-behind : drop (length events) (overlaid 0 codes row) ≡ drop (length events) row
+  row-behind = rw (drop-at codes (drop (0 + length codes) row) (length events) codes-length, codes-length, zero-add)
+
 pub as-singly : (passages estimates : List ℕ) (m : Machine) (events row : List ℕ) → morningOf m passages estimates events row .given .reply ≡ Done
     → AsSingly passages estimates m events row (morningOf m passages estimates events row)
-unfolding eventsOf
-as-singly passages estimates m events row d =
-    let clear : morningFault events (length row) ≡ 0 = morning-clear m passages estimates events row (morningFault events (length row)) refl d in
-    let e = morning-served m passages estimates events row (morningFault events (length row)) refl clear in
-    let codes : List ℕ = map codeOf (replies passages estimates m (eventsOf events)) in
-    let many : length codes ≡ length events =
-    length-map (replies passages estimates m (eventsOf events)) codeOf ∙ replies-length passages estimates m (eventsOf events) ∙ length-map events _ in
-    record {
-      machine = ap (λ (o : Morning). o .given .machine) e;
-      replied = rw (e, take-at codes (drop (0 + length codes) row) (length events) many) (replies-back passages estimates m (eventsOf events));
-      behind = rw (e, drop-at codes (drop (0 + length codes) row) (length events) many, many, zero-add);
-    }
-
-pub morning-runs : (t : Task) (so-far : List Event) (events row : List ℕ) → morningOf (reached t so-far) (t .passages) (t .estimates) events row .given .reply ≡ Done
-    → MorningRuns t so-far events (morningOf (reached t so-far) (t .passages) (t .estimates) events row)
-morning-runs t so-far events row d =
-    let s = as-singly (t .passages) (t .estimates) (reached t so-far) events row d in
-    record {
-      machine = s .machine ∙ sym (after-append (t .passages) (t .estimates) (openingOf t .machine) so-far (eventsOf events));
-      replied =
-          replies-append (t .passages) (t .estimates) (openingOf t .machine) so-far (eventsOf events) ∙ ap (λ (rs : List Reply). said t so-far ++ rs) (sym (s .replied));
-    }
+as-singly passages estimates m events row =
+    morning-either passages estimates m events row (λ o. o .given .reply ≡ Done → AsSingly passages estimates m events row o)
+    (λ number l d. let z : _≡_ {A = ℕ} 0 1 = cc in absurd (omega arith))
+    (λ d. record { machine = refl; replied = row-back passages estimates m events row; behind = row-behind passages estimates m events row })

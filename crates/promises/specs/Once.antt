@@ -1,6 +1,6 @@
 -- Dealt once: a call deals a state only where it was not dealt before, and then it is; what was dealt before stays so.
 use mathlib.Core.Path.{_≡_, refl, sym, ap}
-use mathlib.Core.List.{List, [], _∷_}
+use mathlib.Core.List.{List}
 use Prim.Native.Nat.{ℕ, _+_, _≤_}
 use native.Mathlib.Decide.{decLe}
 use native.Mathlib.Omega.{arith}
@@ -16,14 +16,13 @@ use Rattle.desk.specs.declared.Answer.{Answer}
 use Rattle.desk.specs.Machine.{markOf, labelOf, heldBy, boardOf}
 use Rattle.desk.specs.Take.{dealt, act}
 use Rattle.desk.specs.Bring.{sweepOf, finish}
-use Rattle.desk.specs.Calls.{Event, call, answers, replies, after}
-use Rattle.promises.specs.Demand.{deals, timesDealt}
+use Rattle.desk.specs.Calls.{Event, call}
+use Rattle.promises.specs.Demand.{deals}
 use Rattle.promises.specs.View.{Sure}
 use Rattle.promises.specs.Progress.{safe-is-open, Chosen}
 use Rattle.promises.specs.TakeMoves.{dealt-now, dealt-else}
 use Rattle.promises.specs.BringMoves.{Passing, lowered-else, free, Keeps, sweep-keeps, finishedBy, finished-now, finished-else}
 use Rattle.promises.specs.Calls.{call-either}
-use Rattle.promises.specs.Fits.{Whole, call-whole}
 
 -- 1 of a state dealt before, 0 of every other
 abbrev pub gone : Machine → ℕ → ℕ
@@ -81,12 +80,5 @@ module _ {passages estimates : List ℕ} {m : Machine} (z : Sure passages estima
       let (passed, stays) = sweep-keeps z p o Stays (passage-stays p (labelOf m p)) (λ l. l) in
       omega (arith, gone-stays m (finishedBy worker p m′) s (finish-stays worker p (labelOf m p) m′ passed stays))
 
-  call-once : (e : Event) → Once m s (call passages estimates m e)
+  pub call-once : (e : Event) → Once m s (call passages estimates m e)
   call-once = call-either passages estimates m (Once m s) (λ number l. omega arith) (λ worker a e d k. act-once worker d k) (λ worker a o. bring-once worker (heldBy m worker) o)
-
--- so over a run
-pub run-once : {passages estimates : List ℕ} {m : Machine} → Whole passages estimates m → (events : List Event) (s : ℕ)
-    → timesDealt s (replies passages estimates m events) + gone m s ≤ gone (after passages estimates m events) s
-unfolding timesDealt replies after answers
-run-once z [] s = omega arith
-run-once z (e ∷ es) s = omega (arith, call-once (z .sure) s e, run-once (call-whole z e) es s)

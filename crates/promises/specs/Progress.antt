@@ -12,7 +12,8 @@ use Rattle.laws.specs.Truth.{and-left, and-right, or-either}
 use Rattle.laws.specs.First.{first-before, first-none, any-none, any-some}
 use Rattle.laws.specs.Least.{least, IsLeast, least-is}
 use Rattle.rule.specs.Marks.{waiting, isOpen, isOut, isLive}
-use Rattle.rule.specs.Rule.{holdsBack, independent-is}
+use Rattle.rule.specs.Rule.{holdsBack}
+use Rattle.rule.specs.Laws.{independent-is}
 use Rattle.dealing.specs.Board.{Board, markAt, labelAt, h, dependsOn, firstDependence, safe, choice, anyOpen, anyOut}
 use Rattle.dealing.specs.declared.Decision.{Decision}
 use Rattle.dealing.specs.declared.Decision.the-variants.{Found, NoPath, Deal, Stuck, Wait}
@@ -37,6 +38,10 @@ module _ (b : Board) (s : ℕ) where
       none true = refl
       none false = refl
 
+  -- so where it doesn't depend, the inequality of independence holds
+  pub independent-of : (u : ℕ) → u ≢ s → isLive (markAt b u) ≡ true → dependsOn b s u ≡ false → 100 * labelAt b s ≤ 100 * labelAt b u + b .excess * h b u s
+  independent-of u d a e = leb-true _ _ (not-false _ (sym (depends-live u d a) ∙ e))
+
   -- safe is open and free
   pub safe-is-open : safe b s ≡ true → markAt b s ≡ waiting
   unfolding safe
@@ -46,7 +51,7 @@ module _ (b : Board) (s : ℕ) where
   unfolding safe firstDependence
   safe-is-free e u l d a =
       let all : firstDependence b s ≡ b .n = eqb-true (firstDependence b s) (b .n) (and-right (isOpen (markAt b s)) _ e) in
-      leb-true _ _ (not-false _ (sym (depends-live u d a) ∙ first-before (dependsOn b s) (b .n) u (omega arith)))
+      independent-of u d a (first-before (dependsOn b s) (b .n) u (omega arith))
 
   pub free-safe : markAt b s ≡ waiting → Free b s → safe b s ≡ true
   unfolding firstDependence

@@ -45,7 +45,7 @@ module _ {passages estimates : List ℕ} {m : Machine} (z : Sure passages estima
   module _ (worker s : ℕ) (e : safe (boardOf m estimates) s ≡ true) where
     -- the state that is dealt is out, and every other mark stays
     pub dealt-now : markOf (dealt m worker s) s ≡ 2
-    dealt-now = getD-set-same (m .mark) s out 0 (omega (arith, seen-in z s (omega (arith, safe-is-open (boardOf m estimates) s e)), z .sized .mark))
+    dealt-now = getD-set-same (m .mark) s out 0 (omega (arith, seen-in z s (omega (arith, safe-is-open (boardOf m estimates) s e)), z .sized .marks))
 
     pub dealt-else : (x : ℕ) → x ≢ s → markOf (dealt m worker s) x ≡ markOf m x
     dealt-else x d = getD-set-other (m .mark) s x out 0 d
@@ -79,7 +79,7 @@ module _ {passages estimates : List ℕ} {m : Machine} (z : Sure passages estima
     dealt-sure : s ≢ m .goal → Sure passages estimates (dealt m worker s)
     dealt-sure u = record {
       task = z .task;
-      sized = record { mark = length-set (m .mark) s out ∙ z .sized .mark; label = z .sized .label; via = z .sized .via; held = length-set (m .held) worker s ∙ z .sized .held };
+      sized = record { marks = length-set (m .mark) s out ∙ z .sized .marks; labels = z .sized .labels; vias = z .sized .vias; workers = length-set (m .held) worker s ∙ z .sized .workers };
       marks = at-or s (omega (arith, dealt-now)) (λ x d. omega (arith, dealt-else x d, z .marks x));
       good = good-on passages estimates m (z .task) (z .good) (deal-step u);
     }
@@ -88,7 +88,7 @@ module _ {passages estimates : List ℕ} {m : Machine} (z : Sure passages estima
   phase-sure : (p : ℕ) → Sure passages estimates (withPhase m p)
   phase-sure p = record {
     task = z .task;
-    sized = record { mark = z .sized .mark; label = z .sized .label; via = z .sized .via; held = z .sized .held };
+    sized = record { marks = z .sized .marks; labels = z .sized .labels; vias = z .sized .vias; workers = z .sized .workers };
     marks = z .marks;
     good = z .good;
   }

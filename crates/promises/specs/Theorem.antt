@@ -1,76 +1,53 @@
--- Demand 3 and what goes with it, of every task that opening accepts: what the invariant of every reached machine says, at the task's numbers.
-use mathlib.Core.Path.{_≡_, refl, subst, subst⁻¹, ap, _∙_}
-use mathlib.Core.List.{List, _∷_, _++_}
-use Prim.Native.Nat.{ℕ, _≤_}
+-- Demand 3 and what goes with it, of every task that opening accepts: a day is a run from the opened machine, and what a run keeps is read off at the task's numbers.
+use mathlib.Core.Path.{_≡_, refl, subst, subst⁻¹, ap}
+use mathlib.Core.List.{List}
+use Prim.Native.Nat.{_≤_}
 use native.Mathlib.Omega.{arith}
 use lib.Dec.{leb}
 use Rattle.laws.specs.Count.{one-max}
+use Rattle.rule.specs.Refusals.{nothingOut}
 use Rattle.checks.specs.Opening.{Task}
 use Rattle.desk.specs.declared.Machine.{Machine}
-use Rattle.desk.specs.declared.Reply.{Reply}
 use Rattle.desk.specs.declared.Reply.the-variants.{Found, NoPath, Refused}
 use Rattle.desk.specs.Machine.{markOf, labelOf, taskOf}
 use Rattle.desk.specs.Opening.{openingOf, openedMachine}
-use Rattle.desk.specs.Calls.{Event, answers, after}
-use Rattle.desk.specs.CallLaws.{after-append}
-use Rattle.promises.specs.Demand.{Accepted, reached, said, next, timesDealt, PathRight, Demand3, Kept}
+use Rattle.promises.specs.Day.{Call, reached, said}
+use Rattle.promises.specs.Demand.{Accepted, Demand3, Kept}
 use Rattle.promises.specs.Accepted.{sound, accepted-fault, accepted-machine}
-use Rattle.promises.specs.Fits.{Whole, opened-whole, whole-fits}
-use Rattle.promises.specs.Once.{gone, gone-no, run-once}
-use Rattle.promises.specs.Runs.{after-whole, after-task, after-still}
-use Rattle.promises.specs.Replies.{Says, call-says}
+use Rattle.promises.specs.Fits.{Steady, opened-steady, steady-fits}
+use Rattle.promises.specs.Once.{gone-no}
+use Rattle.promises.specs.Runs.{Standing, Run, day-run}
 
 module _ (t : Task) (a : Accepted t) where
   -- the first machine
-  first-whole : Whole (t .passages) (t .estimates) (openingOf t .machine)
-  first-whole = subst⁻¹ (Whole (t .passages) (t .estimates)) (accepted-machine t a) (opened-whole t (sound t (accepted-fault t a)))
-
-  first-task : taskOf (openingOf t .machine) (t .passages) (t .estimates) ≡ t
+  opened : Standing t (openingOf t .machine)
   unfolding openedMachine
-  first-task = ap (λ (m : Machine). taskOf m (t .passages) (t .estimates)) (accepted-machine t a)
+  opened = record {
+    steady = subst⁻¹ (Steady (t .passages) (t .estimates)) (accepted-machine t a) (opened-steady t (sound t (accepted-fault t a)));
+    task = ap (λ (m : Machine). taskOf m (t .passages) (t .estimates)) (accepted-machine t a);
+  }
 
-  -- every other
-  module _ (events : List Event) where
-    reached-whole : Whole (t .passages) (t .estimates) (reached t events)
-    reached-whole = after-whole first-whole events
+  module _ (day : List Call) where
+    run : Run t (openingOf t .machine) (reached t day) (said t day)
+    run = day-run opened day
 
-    reached-task : taskOf (reached t events) (t .passages) (t .estimates) ≡ t
-    reached-task = after-task first-whole events ∙ first-task
+    goal-waits : markOf (reached t day) (t .goal) ≤ 1
+    goal-waits = subst (λ (u : Task). markOf (reached t day) (u .goal) ≤ 1) (run .stands .task) (run .stands .steady .sure .good .aim)
 
-    goal-waits : markOf (reached t events) (t .goal) ≤ 1
-    goal-waits = subst (λ (u : Task). markOf (reached t events) (u .goal) ≤ 1) reached-task (reached-whole .sure .good .aim)
-
-    start-root : labelOf (reached t events) (t .start) ≡ 0
-    start-root = subst (λ (u : Task). labelOf (reached t events) (u .start) ≡ 0) reached-task (reached-whole .sure .good .chained .root)
-
-    dealt-times : (s : ℕ) → timesDealt s (said t events) ≤ gone (reached t events) s
-    dealt-times s = omega (arith, run-once first-whole events s)
-
-    -- the next reply says what replies of its case say
-    next-says : (e : Event) (r : Reply) → next t events e .reply ≡ r → Says t (next t events e .machine) r
-    next-says e r q =
-        subst (Says t (next t events e .machine)) q
-        (subst (λ (u : Task). Says u (next t events e .machine) (next t events e .reply)) reached-task (call-says reached-whole e))
-
-    -- and the machine handed back with Found stays as it is
-    found-later : (e : Event) (later : List Event) (c : ℕ) → next t events e .reply ≡ Found c → PathRight t (reached t (events ++ (e ∷ later))) c
-    unfolding after answers
-    found-later e later c q =
-        let (phase, right) = next-says e (Found c) q in
-        subst⁻¹ (λ (m : Machine). PathRight t m c)
-        (after-append (t .passages) (t .estimates) (openingOf t .machine) events (e ∷ later) ∙ after-still (t .passages) (t .estimates) (next t events e .machine) phase later) right
+    start-root : labelOf (reached t day) (t .start) ≡ 0
+    start-root = subst (λ (u : Task). labelOf (reached t day) (u .start) ≡ 0) (run .stands .task) (run .stands .steady .sure .good .chained .root)
 
 pub demand3 : (t : Task) → Accepted t → Demand3 t
 demand3 t a = record {
-  once = λ events s. omega (arith, dealt-times t a events s, one-max (leb 2 (markOf (reached t events) s)));
-  found = found-later t a;
-  nopath = λ events e q. next-says t a events e NoPath q;
+  once = λ day s. omega (arith, run t a day .once s, one-max (leb 2 (markOf (reached t day) s)));
+  found = λ day c i. run t a day .says (Found c) i .1;
+  nopath = λ day i. run t a day .says NoPath i;
 }
 
 pub kept : (t : Task) → Accepted t → Kept t
 kept t a = record {
-  fitting = λ events. whole-fits (reached-whole t a events);
-  moving = λ events e q. next-says t a events e (Refused 12) q refl;
-  aim = λ events. omega (arith, dealt-times t a events (t .goal), gone-no (reached t events) (t .goal) (goal-waits t a events));
+  fitting = λ day. steady-fits (run t a day .stands .steady);
+  moving = λ day i. run t a day .says (Refused nothingOut) i refl;
+  aim = λ day. omega (arith, run t a day .once (t .goal), gone-no (reached t day) (t .goal) (goal-waits t a day));
   root = start-root t a;
 }

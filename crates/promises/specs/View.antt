@@ -5,7 +5,7 @@ use mathlib.Core.Logic.{_≢_}
 use mathlib.Core.Bool.{cond}
 use mathlib.Core.List.{List}
 use Prim.Native.Nat.{ℕ, _*_, _≤_}
-use lib.ListN.{length, getD}
+use lib.ListN.{getD}
 use lib.Dec.{eqb}
 use borrow.Author.Tests.{eq-eqb, ne-eqb}
 use Rattle.rule.specs.Task.{passageCount, estimate}
@@ -14,6 +14,7 @@ use Rattle.argument.specs.View.{View}
 use Rattle.argument.specs.Good.{Good, Step, good-step}
 use Rattle.desk.specs.declared.Machine.{Machine}
 use Rattle.desk.specs.Machine.{markOf, labelOf, taskOf}
+use Rattle.desk.specs.Laws.{Sized}
 use Rattle.promises.specs.Demand.{graph}
 use Rattle.promises.specs.Accepted.{Sound}
 
@@ -50,13 +51,6 @@ midway-at passages m p i = rw (eq-eqb p p refl)
 
 pub midway-other : (passages : List ℕ) (m : Machine) (p i s : ℕ) → s ≢ p → midway passages m p i s ≡ applied passages m s
 midway-other passages m p i s u = rw (ne-eqb s p u)
-
--- the rows have their places
-pub record Sized (m : Machine) : Type 0 where
-  pub mark : length (m .mark) ≡ 256
-  pub label : length (m .label) ≡ 256
-  pub via : length (m .via) ≡ 256
-  pub held : length (m .held) ≡ 32
 
 module _ (passages estimates : List ℕ) where
   -- the argument's invariant and its steps, at a machine's numbers

@@ -11,7 +11,8 @@ use Rattle.laws.specs.Truth.{and-left, and-right}
 use Rattle.laws.specs.First.{first, first-passes, first-before, any-none, any-some}
 use Rattle.laws.specs.Least.{IsLeast, least-is, least-lowest}
 use Rattle.rule.specs.Marks.{waiting, out, isOpen, isOut, isLive}
-use Rattle.rule.specs.Rule.{independent, holdsBack, independent-is}
+use Rattle.rule.specs.Rule.{independent, holdsBack}
+use Rattle.rule.specs.Laws.{independent-is}
 use Rattle.dealing.specs.Board.{Board, markAt, labelAt, h, dependsOn, firstDependence, safe, key, foremost, anyOpen, anyOut, firstMarked}
 use Rattle.dealing.specs.Decision.{waitedFor}
 use Rattle.dealing.specs.Laws.{foremost-held}
@@ -23,7 +24,7 @@ use Rattle.desk.specs.Machine.{markOf, boardOf}
 use Rattle.desk.specs.Take.{act}
 use Rattle.desk.specs.Calls.{Event, call}
 use Rattle.promises.specs.Demand.{Foremost, HeldUp, WaitsFor}
-use Rattle.promises.specs.Progress.{Chosen}
+use Rattle.promises.specs.Progress.{independent-of, Chosen}
 use Rattle.promises.specs.Calls.{call-either}
 
 -- what dependence on t says: t is another state, live, and its front with E × h(t,s) stays behind 100 × label s
@@ -90,7 +91,7 @@ module _ (m : Machine) (estimates : List ℕ) where
     held-up = record {
       other = depends-other b front stop stop-depends;
       behind = depends-behind b front stop stop-depends;
-      lowest = λ x l. first-before (dependsOn b front) (m .n) x l;
+      lowest = λ x l d a. independent-of b front x d a (first-before (dependsOn b front) (m .n) x l);
     }
 
     waits-held : anyOut b ≡ true → WaitsFor m estimates stop

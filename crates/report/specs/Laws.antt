@@ -1,8 +1,9 @@
 -- Text written piece by piece, and the places that it takes.
 use mathlib.Core.Path.{_≡_, refl, subst, _∙_}
 use mathlib.Core.Bool.{false, cond, not}
-use mathlib.Core.List.{List}
+use mathlib.Core.List.{List, [], _∷_, _++_}
 use Prim.Native.Nat.{ℕ, _+_, _≤_}
+use lib.ListN.{replicate}
 use types.Run.{OneOf, miss}
 use mir.Val.{hasKey}
 use denote.Enum.Declared.{tagOf}
@@ -14,10 +15,13 @@ use Rattle.desk.specs.declared.Reply.{Reply}
 use Rattle.desk.proofs.Reply.{the-type}
 use Rattle.desk.specs.declared.Reply.the-variants.{Opened, Took, Brought, Found, NoPath, Wait, Read, Refused, Done}
 use Rattle.desk.specs.Reply.{caseOf, when, found, read}
+use Rattle.desk.specs.Path.{pathOf}
 use Rattle.desk.specs.Calls.{workerOf, call}
-use Rattle.report.specs.declared.Told.{Told}
-use Rattle.report.specs.Line.{spoken}
 use Rattle.desk.specs.Morning.{eventOf}
+use Rattle.report.specs.declared.Told.{Told}
+use Rattle.laws.specs.Ascii.{ascii}
+use Rattle.report.specs.Decimal.{decimal}
+use Rattle.report.specs.Line.{pathLine, spoken}
 
 -- the tag that a match on a reply goes by is the reply's case
 tag-case : (r : Reply) → tagOf the-type r ≡ caseOf r
@@ -35,15 +39,24 @@ tag-case Done = refl
 pub other-case : (others : List ℕ) (case : ℕ) (r : Reply) → T (not (hasKey others case)) → OneOf others (tagOf the-type r) → eqb (caseOf r) case ≡ false
 other-case others case r h o = ne-eqb (caseOf r) case (λ e. miss others case h (subst (OneOf others) (tag-case r ∙ e) o))
 
+-- numbers with a blank before each, which a line's end has yet to follow
+unfoldable pub spaced : List ℕ → List ℕ
+spaced [] = []
+spaced (n ∷ ns) = ascii " " ++ (decimal n ++ spaced ns)
+
+-- the path line of a machine
+abbrev pub pathText : Machine → List ℕ → List ℕ → List ℕ
+pathText m passages estimates = let r = pathOf m passages estimates (replicate 256 0) 0 in pathLine (r .buffer) (r .given .reply)
+
 -- a path that was read fits the 256 places that it was read into
-abbrev pub Drawn : Reply → Type 0
-Drawn reply = when read reply (λ many. many) 0 ≤ 256
+abbrev pub PathFits : Reply → Type 0
+PathFits reply = when read reply (λ many. many) 0 ≤ 256
 
 -- the places that what follows a reply's line may take: a path line, after Found
 abbrev pub reserve : Reply → ℕ
 reserve reply = when found reply (λ _. 8192) 0
 
--- the places kept back for a path line while none was printed: Found comes once
+-- the places kept back for a path line while the search goes on: Found comes once, and ends it
 abbrev pub spare : Machine → ℕ
 spare m = cond (eqb (m .phase) 0) 8192 0
 

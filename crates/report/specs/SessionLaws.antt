@@ -1,12 +1,12 @@
 -- A session's text as its functions build it: what each call spends of the buffer, the text after so many events, and the report by what reading a file comes to.
 use mathlib.Core.Path.{_≡_, refl, sym, ap, subst, subst⁻¹, _∙_}
-use mathlib.Core.Bool.{Bool, true, false, _&&_, not, cond}
+use mathlib.Core.Bool.{Bool, true, false, _&&_, cond}
 use mathlib.Core.List.{List, [], _∷_, _++_, append-nil, append-assoc}
 use Prim.Native.Nat.{ℕ, zero, suc, _+_, _-_, _*_, _%_, _≤_, _<_}
 use native.Mathlib.Omega.{arith}
 use lib.ListN.{length, getD, replicate, take, length-append, length-take, length-drop}
 use lib.Dec.{ltb, leb, eqb}
-use borrow.Author.Tests.{eqb-true, leb-true, eq-eqb, ne-eqb, le-leb, lt-leb}
+use borrow.Author.Tests.{eqb-true, eq-eqb, ne-eqb, le-leb, lt-leb}
 use Rattle.laws.specs.Truth.{provided, provided-either}
 use Rattle.laws.specs.Fold.{fold}
 use Rattle.laws.specs.Part.{overlaid}
@@ -17,19 +17,18 @@ use Rattle.checks.specs.Opening.{task}
 use Rattle.dealing.specs.declared.Decision.{Decision}
 use Rattle.dealing.specs.declared.Decision.the-variants.{Found as FoundAt, NoPath as NoPathLeft, Deal, Stuck, Wait as WaitOn}
 use Rattle.dealing.specs.Decision.{decision}
-use Rattle.trail.specs.Trail.{pathLength}
 use Rattle.desk.specs.declared.Machine.{Machine}
 use Rattle.desk.specs.declared.Swept.{Swept}
-use Rattle.desk.specs.declared.Reply.the-variants.{Found}
 use Rattle.desk.specs.declared.Answer.{Answer}
-use Rattle.desk.specs.Machine.{heldBy, labelOf, trailOf, boardOf}
-use Rattle.desk.specs.Reply.{refusalOf}
+use Rattle.desk.specs.Machine.{heldBy, labelOf, boardOf}
+use Rattle.desk.specs.Reply.{when, found, refusalOf}
 use Rattle.desk.specs.Fits.{fits}
 use Rattle.desk.specs.Admission.{admitted}
 use Rattle.desk.specs.Take.{act, takeStep, takeOf}
 use Rattle.desk.specs.Bring.{swept, labelled, applyPassage, sweepOf, bringStep, bringOf}
 use Rattle.desk.specs.Opening.{openingOf}
-use Rattle.desk.specs.Path.{Reading, unread, pathOf}
+use Rattle.desk.specs.Path.{pathOf}
+use Rattle.desk.specs.Laws.{path-either}
 use Rattle.desk.specs.Calls.{Event, take as takes, bring as brings, workerOf, call, answers, after}
 use Rattle.desk.specs.Morning.{eventOf, eventsOf}
 use Rattle.desk.specs.CallLaws.{event-worker, after-more, firsts, firsts-more, firsts-all}
@@ -37,12 +36,12 @@ use Rattle.taskfile.specs.declared.Contents.{Contents}
 use Rattle.taskfile.specs.declared.Outcome.{Outcome}
 use Rattle.taskfile.specs.declared.Outcome.the-variants.{Read, Fault}
 use Rattle.taskfile.specs.Scan.{scanned}
-use Rattle.taskfile.specs.Contents.{Reading as FileReading, roomyFor, readOf}
+use Rattle.taskfile.specs.Contents.{FileReading, roomyFor, readOf}
 use Rattle.taskfile.specs.Laws.{roomy}
 use Rattle.report.specs.declared.Told.{Told}
-use Rattle.report.specs.Line.{word-file, word-opening, line1, line2, lineOf, afterReply, spoken}
-use Rattle.report.specs.Text.{conversation, session, taskText, outcomeText, printed, room, reportLength, reportBuffer}
-use Rattle.report.specs.Laws.{Drawn, reserve, spare, Said}
+use Rattle.report.specs.Line.{line, lineOf, spoken}
+use Rattle.report.specs.Text.{conversation, session, taskText, outcomeText, reading, printed, room, reportLength, reportBuffer}
+use Rattle.report.specs.Laws.{pathText, PathFits, reserve, spare, Said}
 
 -- what a call prints after its line was kept back before: Found comes once
 abbrev Spends : Machine → Answer → Type 0
@@ -94,20 +93,9 @@ call-spends passages estimates m (takes worker) = admitted-spends m passages est
 call-spends passages estimates m (brings worker) = admitted-spends m passages estimates worker _ _ (λ _. bring-spends m passages worker)
 
 -- a path that is read into 256 places has at most so many states
-pub path-drawn : (m : Machine) (passages estimates : List ℕ) → Drawn (pathOf m passages estimates (replicate 256 0) 0 .given .reply)
-unfolding pathOf
-path-drawn m passages estimates =
-    provided-either P (fits m passages estimates) _ _ (none 8)
-    (λ _. provided-either P (eqb (m .phase) 1) _ _ (none 13)
-    (λ _. provided-either P (not (eqb (pathLength (trailOf m passages)) 0)) _ _ (none 14)
-    (λ _. provided-either P (leb (pathLength (trailOf m passages)) (length {A = ℕ} (replicate 256 0) - 0)) _ _ (none 15)
-    (λ e. omega (arith, leb-true (pathLength (trailOf m passages)) (length {A = ℕ} (replicate 256 0) - 0) e)))))
-  where
-    P : Reading → Type 0
-    P r = Drawn (r .given .reply)
-
-    none : (number : ℕ) → P (unread m (replicate 256 0) number)
-    none number = omega arith
+pub path-fits : (m : Machine) (passages estimates : List ℕ) → PathFits (pathOf m passages estimates (replicate 256 0) 0 .given .reply)
+path-fits m passages estimates =
+    path-either m passages estimates (replicate 256 0) 0 (λ r. PathFits (r .given .reply)) (λ number other. omega arith) (λ some room. omega arith)
 
 -- a call's answer: the places that it spends, and its two lines in a row
 module _ (m : Machine) (passages estimates : List ℕ) (event : ℕ) (a : Answer) (e : a ≡ call passages estimates m (eventOf event)) where
@@ -116,7 +104,7 @@ module _ (m : Machine) (passages estimates : List ℕ) (event : ℕ) (a : Answer
 
   pub said : (at p q : ℕ) (l₀ l₁ l₂ : List ℕ) → at + 50 + spare m ≤ length l₀
       → Put at (lineOf (event % 65536) (a .reply)) l₀ l₁ p × (p ≤ at + 50)
-      → Put p (afterReply (a .reply) (pathOf (a .machine) passages estimates (replicate 256 0) 0)) l₁ l₂ q × (q ≤ p + reserve (a .reply))
+      → Put p (when found (a .reply) (λ _. pathText (a .machine) passages estimates) []) l₁ l₂ q × (q ≤ p + reserve (a .reply))
       → Said m passages estimates event at l₀ l₂ (record { machine = a .machine; at = q })
   unfolding spoken
   said at p q l₀ l₁ l₂ h x y = record {
@@ -169,7 +157,7 @@ module _ (passages estimates : List ℕ) (m₀ : Machine) (events l₀ : List �
 
 -- a task's text: its session where opening accepts it, else the refusal alone
 module _ (c : Contents) (passages estimates events : List ℕ) (a : Answer) (e : a ≡ openingOf (task (c .n) (c .k) (c .start) (c .goal) (c .pull) (c .excess) passages estimates)) (number : ℕ) (f : number ≡ refusalOf (a .reply)) (l₀ l : List ℕ) (r : ℕ) where
-  pub put-refused : (number ≡ 0 → ⊥) → Put 0 (line1 word-opening number) l₀ l r → Put 0 (taskText c passages estimates events) l₀ l r
+  pub put-refused : (number ≡ 0 → ⊥) → Put 0 (line "opening" (number ∷ [])) l₀ l r → Put 0 (taskText c passages estimates events) l₀ l r
   unfolding taskText
   put-refused n p = rw (← e, ← f, ne-eqb number 0 n) p
 
@@ -203,10 +191,6 @@ read-bounds file passages estimates calls c e = subst⁻¹ (Bounded (length pass
         let f = roomy (scanned file) (length passages) (length estimates) (length calls) r in
         record { passages-in = f .passages-in; estimates-in = f .estimates-in; calls-in = f .calls-in })))
 
--- a file as it is read for a report
-abbrev pub reading : List ℕ → FileReading
-reading file = readOf file (replicate 1536 0) (replicate 4096 0) (replicate 11008 0)
-
 pub reading-bounds : (file : List ℕ) (c : Contents) → Read c ≡ reading file .outcome → Counts c 1536 4096 11008
 reading-bounds file c e = read-bounds file (replicate 1536 0) (replicate 4096 0) (replicate 11008 0) c e
 
@@ -225,7 +209,7 @@ module _ (file out : List ℕ) where
   report-put h l r p = rw (le-leb room (length out) h) (omega (arith, p .next), p .done)
 
   module _ (h : room ≤ length out) (l : List ℕ) (r : ℕ) where
-    pub report-fault : (number offset : ℕ) → Fault number offset ≡ reading file .outcome → Put 0 (line2 word-file number offset) out l r → (r ≡ reportLength file out) × (l ≡ reportBuffer file out)
+    pub report-fault : (number offset : ℕ) → Fault number offset ≡ reading file .outcome → Put 0 (line "file" (number ∷ offset ∷ [])) out l r → (r ≡ reportLength file out) × (l ≡ reportBuffer file out)
     report-fault number offset e p = report-put h l r (subst (λ (xs : List ℕ). Put 0 xs out l r) (printed-as file (Fault number offset) e) p)
 
     pub report-task : (c : Contents) (passages estimates calls : List ℕ) → Read c ≡ reading file .outcome → passages ≡ reading file .passages → estimates ≡ reading file .estimates → calls ≡ reading file .calls

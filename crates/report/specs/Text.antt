@@ -1,7 +1,7 @@
 -- What is printed for a whole file: a line for each call, or only the fault, or only the refused opening.
 use mathlib.Core.Bool.{cond}
 use mathlib.Core.List.{List, [], _∷_, _++_}
-use Prim.Native.Nat.{ℕ, _+_, _*_}
+use Prim.Native.Nat.{ℕ, _*_}
 use lib.ListN.{length, replicate, take}
 use lib.Dec.{leb, eqb}
 use Rattle.laws.specs.Truth.{provided}
@@ -16,8 +16,8 @@ use Rattle.desk.specs.Morning.{eventsOf}
 use Rattle.taskfile.specs.declared.Contents.{Contents}
 use Rattle.taskfile.specs.declared.Outcome.{Outcome}
 use Rattle.taskfile.specs.declared.Outcome.the-variants.{Read, Fault}
-use Rattle.taskfile.specs.Contents.{Reading, readOf}
-use Rattle.report.specs.Line.{word-file, word-opening, line1, line2, spoken}
+use Rattle.taskfile.specs.Contents.{FileReading, readOf}
+use Rattle.report.specs.Line.{line, spoken}
 
 -- "prints a line per call": what is said of each answer, one after the other
 unfoldable pub conversation : List ℕ → List ℕ → List Event → List Answer → List ℕ
@@ -32,20 +32,21 @@ session passages estimates m events = conversation passages estimates events (an
 unfoldable pub taskText : Contents → List ℕ → List ℕ → List ℕ → List ℕ
 taskText c passages estimates events =
     let a = openingOf (task (c .n) (c .k) (c .start) (c .goal) (c .pull) (c .excess) passages estimates) in
-    cond (eqb (refusalOf (a .reply)) 0) (session passages estimates (a .machine) (eventsOf events)) (line1 word-opening (refusalOf (a .reply)))
+    cond (eqb (refusalOf (a .reply)) 0) (session passages estimates (a .machine) (eventsOf events)) (line "opening" (refusalOf (a .reply) ∷ []))
 
 -- "A file fault prints only `file`, number, offset"
-abbrev pub outcomeText : Reading → Outcome → List ℕ
+abbrev pub outcomeText : FileReading → Outcome → List ℕ
 outcomeText r (Read c) = taskText c (take (3 * c .passages) (r .passages)) (take (c .n * c .n) (r .estimates)) (take (c .calls) (r .calls))
-outcomeText r (Fault number offset) = line2 word-file number offset
+outcomeText r (Fault number offset) = line "file" (number ∷ offset ∷ [])
 
--- the text of a file, read into slices that are long enough for every file
+-- a file read into slices that are long enough for every file: 512 passages, 64 × 64 estimates, and 11,008 calls. A file of 65,536 bytes holds 10,918 calls at most: 16 bytes are its head, 10 or more its rows, 6 each call
+abbrev pub reading : List ℕ → FileReading
+reading file = readOf file (replicate 1536 0) (replicate 4096 0) (replicate 11008 0)
+
 unfoldable pub printed : List ℕ → List ℕ
-printed file =
-    let r = readOf file (replicate 1536 0) (replicate 4096 0) (replicate 11008 0) in
-    outcomeText r (r .outcome)
+printed file = let r = reading file in outcomeText r (r .outcome)
 
--- the places that a buffer must have: 50 for each call that a file can hold, and 8,192 for a path
+-- the places that a buffer must have, 9 × 65,536. No text takes more than 558,592: 50 for each of 11,008 calls (a word of 7 letters, two numbers of 20 digits, two blanks and the line's end), and 8,192 for a path line, which is printed once
 abbrev pub room : ℕ
 room = 589824
 

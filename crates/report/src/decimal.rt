@@ -1,44 +1,23 @@
 // Numbers in decimal, and pieces of text, into a buffer from a place on.
-ghost use mathlib.Core.Path.{_≡_};
 ghost use mathlib.Core.List.{[], _∷_};
 ghost use Prim.Native.Nat.{_+_, _≤_, _<_};
 ghost use lib.ListN.{length};
 ghost use Rattle.laws.specs.Put.{Put};
-ghost use Rattle.report.specs.Decimal.{width, decimal};
+ghost use Rattle.report.specs.Decimal.{decimalIn, decimal};
 
-const POWERS: [u64; 20] = [
-    1,
-    10,
-    100,
-    1000,
-    10000,
-    100000,
-    1000000,
-    10000000,
-    100000000,
-    1000000000,
-    10000000000,
-    100000000000,
-    1000000000000,
-    10000000000000,
-    100000000000000,
-    1000000000000000,
-    10000000000000000,
-    100000000000000000,
-    1000000000000000000,
-    10000000000000000000,
-];
-
-// How many digits n takes.
-pub fn width(n: u64) -> usize
-    ensures { λ r. ⌜ (r ≡ width n) × ((1 ≤ r) × (r ≤ 20)) ⌝ }
+// The last digits of n, `most` of them at most.
+pub fn put_digits(out: &mut [u8], at: usize, n: u64, most: usize) -> usize
+    requires { ⌜ at + most ≤ length (now out) ⌝ }
+    ensures { λ r. ⌜ Put at (decimalIn most n) (now (out .entry)) (now (out .exit)) r ⌝ }
 {
-    for i in 0..19 {
-        if n < POWERS[i + 1] {
-            return i + 1;
-        }
+    if most == 0 {
+        return at;
     }
-    20
+    if n < 10 {
+        return put_byte(out, at, (48 + n) as u8);
+    }
+    let p = put_digits(out, at, n / 10, most - 1);
+    put_byte(out, p, (48 + n % 10) as u8)
 }
 
 // n in decimal.
@@ -46,11 +25,7 @@ pub fn put_decimal(out: &mut [u8], at: usize, n: u64) -> usize
     requires { ⌜ at + 20 ≤ length (now out) ⌝ }
     ensures { λ r. ⌜ Put at (decimal n) (now (out .entry)) (now (out .exit)) r ⌝ }
 {
-    let w = width(n);
-    for j in 0..w {
-        out[at + j] = (48 + n / POWERS[w - 1 - j] % 10) as u8;
-    }
-    at + w
+    put_digits(out, at, n, 20)
 }
 
 // One byte.

@@ -1,18 +1,19 @@
-// Lines, into a buffer from a place on. A line takes at most 50 bytes.
+// Lines, into a buffer from a place on. A line takes at most 50 bytes, a path line at most 8,192.
 ghost use mathlib.Core.Path.{_≡_};
+ghost use mathlib.Core.List.{[], _∷_, _++_};
 ghost use Prim.Native.Nat.{_+_, _≤_};
-ghost use lib.ListN.{length};
+ghost use lib.ListN.{length, take};
 ghost use Rattle.laws.specs.Put.{Put};
 ghost use Rattle.desk.specs.Reply.{refusalOf};
-ghost use Rattle.report.specs.Line.{line1, line2, lineOf, statesText, readText};
-ghost use Rattle.report.specs.Laws.{Drawn};
+ghost use Rattle.report.specs.Line.{numbers, lineOf, pathLine};
+ghost use Rattle.report.specs.Laws.{spaced, PathFits};
 use super::decimal;
 use desk::Reply;
 
 // A word and one number.
 pub fn put_line1(out: &mut [u8], at: usize, word: &[u8], a: u64) -> usize
     requires { ⌜ (length (now word) ≤ 7) × (at + 50 ≤ length (now out)) ⌝ }
-    ensures { λ r. ⌜ Put at (line1 (now (word .entry)) a) (now (out .entry)) (now (out .exit)) r × (r ≤ at + 50) ⌝ }
+    ensures { λ r. ⌜ Put at (now (word .entry) ++ numbers (a ∷ [])) (now (out .entry)) (now (out .exit)) r × (r ≤ at + 50) ⌝ }
 {
     let p = decimal::put_word(out, at, word);
     let q = decimal::put_byte(out, p, 32);
@@ -23,7 +24,7 @@ pub fn put_line1(out: &mut [u8], at: usize, word: &[u8], a: u64) -> usize
 // A word and two numbers.
 pub fn put_line2(out: &mut [u8], at: usize, word: &[u8], a: u64, b: u64) -> usize
     requires { ⌜ (length (now word) ≤ 7) × (at + 50 ≤ length (now out)) ⌝ }
-    ensures { λ r. ⌜ Put at (line2 (now (word .entry)) a b) (now (out .entry)) (now (out .exit)) r × (r ≤ at + 50) ⌝ }
+    ensures { λ r. ⌜ Put at (now (word .entry) ++ numbers (a ∷ b ∷ [])) (now (out .entry)) (now (out .exit)) r × (r ≤ at + 50) ⌝ }
 {
     let p = decimal::put_word(out, at, word);
     let q = decimal::put_byte(out, p, 32);
@@ -53,8 +54,8 @@ pub fn put_reply(out: &mut [u8], at: usize, worker: u64, reply: Reply) -> usize
 
 // The first so many states, a blank before each.
 pub fn put_states(out: &mut [u8], at: usize, states: &[u16; 256], count: usize) -> usize
-    requires { ⌜ (count ≤ 256) × (at + 8000 ≤ length (now out)) ⌝ }
-    ensures { λ r. ⌜ Put at (statesText (now (states .entry)) count) (now (out .entry)) (now (out .exit)) r × (r ≤ at + 8000) ⌝ }
+    requires { ⌜ (length (now states) ≡ 256) × ((count ≤ 256) × (at + 8000 ≤ length (now out))) ⌝ }
+    ensures { λ r. ⌜ Put at (spaced (take count (now (states .entry)))) (now (out .entry)) (now (out .exit)) r × (r ≤ at + 8000) ⌝ }
 {
     let mut next = at;
     for i in 0..count {
@@ -66,8 +67,8 @@ pub fn put_states(out: &mut [u8], at: usize, states: &[u16; 256], count: usize) 
 
 // A path line, where path reading replied with a path.
 pub fn put_read(out: &mut [u8], at: usize, states: &[u16; 256], reply: Reply) -> usize
-    requires { ⌜ Drawn reply × (at + 8192 ≤ length (now out)) ⌝ }
-    ensures { λ r. ⌜ Put at (readText (now (states .entry)) reply) (now (out .entry)) (now (out .exit)) r × (r ≤ at + 8192) ⌝ }
+    requires { ⌜ (length (now states) ≡ 256) × (PathFits reply × (at + 8192 ≤ length (now out))) ⌝ }
+    ensures { λ r. ⌜ Put at (pathLine (now (states .entry)) reply) (now (out .entry)) (now (out .exit)) r × (r ≤ at + 8192) ⌝ }
 {
     if let Reply::Read(many) = reply {
         let p = decimal::put_word(out, at, b"path");

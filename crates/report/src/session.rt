@@ -1,14 +1,13 @@
 // A session: a file read, a task opened, its calls made one after the other, and all of it said.
 ghost use mathlib.Core.Path.{_≡_};
-ghost use mathlib.Core.List.{_++_};
+ghost use mathlib.Core.List.{[]};
 ghost use Prim.Native.Nat.{_+_, _*_, _≤_, _<_};
-ghost use lib.ListN.{length, replicate};
+ghost use lib.ListN.{length};
 ghost use Rattle.laws.specs.Put.{Put};
 ghost use Rattle.desk.specs.Morning.{eventsOf};
-ghost use Rattle.desk.specs.Path.{pathOf};
-ghost use Rattle.report.specs.Line.{pathText, afterReply};
+ghost use Rattle.desk.specs.Reply.{when, found};
 ghost use Rattle.report.specs.Text.{session, taskText, reportLength, reportBuffer};
-ghost use Rattle.report.specs.Laws.{reserve, spare, Said};
+ghost use Rattle.report.specs.Laws.{pathText, reserve, spare, Said};
 use super::Told;
 use super::line;
 use desk::Machine;
@@ -16,10 +15,10 @@ use desk::Reply;
 use taskfile::Contents;
 use taskfile::Outcome;
 
-// The path of a machine that has found, as a line.
+// The path of a machine, as a line; nothing where it has none to read.
 pub fn put_path(out: &mut [u8], at: usize, m: Machine, passages: &[u32], estimates: &[u32]) -> usize
     requires { ⌜ at + 8192 ≤ length (now out) ⌝ }
-    ensures { λ r. ⌜ Put at (pathText (pathOf m (now (passages .entry)) (now (estimates .entry)) (replicate 256 0) 0)) (now (out .entry)) (now (out .exit)) r × (r ≤ at + 8192) ⌝ }
+    ensures { λ r. ⌜ Put at (pathText m (now (passages .entry)) (now (estimates .entry))) (now (out .entry)) (now (out .exit)) r × (r ≤ at + 8192) ⌝ }
 {
     let mut states = [0u16; 256];
     let read = m.path(passages, estimates, &mut states, 0);
@@ -37,7 +36,7 @@ pub fn put_after(
     estimates: &[u32],
 ) -> usize
     requires { ⌜ at + reserve reply ≤ length (now out) ⌝ }
-    ensures { λ r. ⌜ Put at (afterReply reply (pathOf m (now (passages .entry)) (now (estimates .entry)) (replicate 256 0) 0)) (now (out .entry)) (now (out .exit)) r × (r ≤ at + reserve reply) ⌝ }
+    ensures { λ r. ⌜ Put at (when found reply (λ _. pathText m (now (passages .entry)) (now (estimates .entry))) []) (now (out .entry)) (now (out .exit)) r × (r ≤ at + reserve reply) ⌝ }
 {
     if let Reply::Found(_) = reply {
         put_path(out, at, m, passages, estimates)

@@ -2,3 +2,5 @@
 pub mod Task
 pub mod Marks
 pub mod Rule
+pub mod Refusals
+pub mod Laws

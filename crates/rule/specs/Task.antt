@@ -1,8 +1,7 @@
 -- "The task and its bounds": how the numbers of the two lent slices are read.
-use mathlib.Core.Path.{_≡_}
 use mathlib.Core.Bool.{Bool, not}
 use mathlib.Core.List.{List}
-use Prim.Native.Nat.{ℕ, _+_, _*_, _/_, _≤_}
+use Prim.Native.Nat.{ℕ, _+_, _*_, _/_}
 use lib.ListN.{length, getD}
 use lib.Dec.{eqb}
 
@@ -30,8 +29,3 @@ isClear passages i = not (eqb (cost passages i) blocked)
 -- "Estimates: a lent slice of n × n u32 numbers, h(a,b) at a × n + b"
 abbrev pub estimate : List ℕ → ℕ → ℕ → ℕ → ℕ
 estimate estimates n a b = getD estimates (a * n + b) 0
-
--- the table is whole: what reading a cell asks
-pub record Whole (estimates : List ℕ) (n : ℕ) : Type 0 where
-  pub states : n ≤ 256
-  pub table : length estimates ≡ n * n

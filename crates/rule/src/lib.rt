@@ -3,9 +3,12 @@
 ghost use mathlib.Core.Path.{_≡_};
 ghost use Prim.Native.Nat.{_+_, _<_};
 ghost use lib.Dec.{eqb};
-ghost use Rattle.rule.specs.Task.{passageCount, near, far, cost, isClear, estimate, Whole};
+ghost use Rattle.rule.specs.Task.{passageCount, near, far, cost, isClear, estimate};
+ghost use Rattle.rule.specs.Laws.{WholeTable};
 ghost use Rattle.rule.specs.Marks.{isLive};
 ghost use Rattle.rule.specs.Rule.{independent, holdsBack, keyOf, lowers};
+
+pub mod refusals;
 
 pub const UNSEEN: u8 = 0;
 
@@ -77,7 +80,7 @@ pub fn adds_up(label: u32, near_label: u32, cost: u32) -> bool
 
 // The estimate from a to b.
 pub fn estimate(estimates: &[u32], n: usize, a: usize, b: usize) -> u32
-    requires { ⌜ Whole (now estimates) n × ((a < n) × (b < n)) ⌝ }
+    requires { ⌜ WholeTable (now estimates) n × ((a < n) × (b < n)) ⌝ }
     ensures { λ r. ⌜ r ≡ estimate (now (estimates .entry)) n a b ⌝ }
 {
     estimates[a * n + b]

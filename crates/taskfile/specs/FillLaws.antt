@@ -1,75 +1,91 @@
--- What the loops that fill the lent slices know: the lists written so far stand at the front of the buffer, one after the other.
+-- What the loops that fill the lent slices know: the pieces put so far stand at the front of the slice, one after the other.
 -- Assumes nothing.
-use mathlib.Core.Path.{_≡_, refl, sym, _∙_}
-use mathlib.Core.List.{List, [], _∷_, _++_}
+use mathlib.Core.Path.{_≡_, refl, _∙_}
+use mathlib.Core.List.{List, [], _∷_}
 use Prim.Native.Nat.{ℕ, zero, suc, _+_, _*_, _≤_, _<_}
 use native.Mathlib.Nat.{suc-mul, mul-le-mul-right}
-use native.Mathlib.Numerals.{add-one}
 use native.Mathlib.Omega.{arith}
 use lib.ListN.{length, set, length-append, length-set}
 use Rattle.laws.specs.Part.{overlaid}
-use Rattle.laws.specs.Fill.{made-length, overlaid-none, overlaid-length, overlaid-one, overlaid-next}
+use Rattle.laws.specs.Fill.{made, made-length}
+use Rattle.laws.specs.Gather.{gathered}
+use Rattle.laws.specs.Put.{Put, put-one, put-three, put-length, put-started, put-piece}
 use Rattle.taskfile.specs.Bytes.{word, long}
-use Rattle.taskfile.specs.Contents.{passagePlace, rowPlace, rowOf, passagesOf, estimatesOf}
+use Rattle.taskfile.specs.Contents.{passagePlace, rowPlace}
 
--- xs is written over the front of what was l₀
-pub record Written {X : Type 0} (xs l₀ l : List X) : Type 0 where
-  pub done : l ≡ overlaid 0 xs l₀
+-- the three numbers of passage i; the n estimates of the row whose record starts at `at`, and of row r
+unfoldable pub passageIn : List ℕ → ℕ → List ℕ
+passageIn file i = word file (passagePlace i + 4) ∷ word file (passagePlace i + 6) ∷ long file (passagePlace i + 8) ∷ []
+
+abbrev pub rowFrom : List ℕ → ℕ → ℕ → List ℕ
+rowFrom file at n = made (λ c. long file (at + 6 + 4 * c)) n
+
+unfoldable pub rowIn : List ℕ → ℕ → ℕ → ℕ → List ℕ
+rowIn file passages n r = rowFrom file (rowPlace passages n r) n
+
+-- pieces that are w long each, put one after another to the front of a slice, which has kept its length
+pub record Stacked (f : ℕ → List ℕ) (w : ℕ) (l₀ l : List ℕ) (i : ℕ) : Type 0 where
+  pub text : Put 0 (gathered f i) l₀ l (i * w)
   pub kept : length l ≡ length l₀
 
-pub written-none : {X : Type 0} (l : List X) → Written [] l l
-written-none l = record { done = overlaid-none 0 l; kept = refl }
+module _ (f : ℕ → List ℕ) (w : ℕ) (each : (i : ℕ) → length (f i) ≡ w) (l₀ : List ℕ) where
+  pieces-length : (i : ℕ) → length (gathered f i) ≡ i * w
+  unfolding gathered
+  pieces-length zero = omega arith
+  pieces-length (suc i) = rw (length-append, pieces-length i, each i, suc-mul)
 
-pub written-more : {X : Type 0} (at : ℕ) (xs ys l₀ l : List X) → Written xs l₀ l → at ≡ length xs → at + length ys ≤ length l₀ → Written (xs ++ ys) l₀ (overlaid at ys l)
-written-more at xs ys l₀ l w e h =
-    record {
-      done = overlaid-next 0 at l₀ l xs ys (w .done) (omega arith) (omega arith);
-      kept = overlaid-length at l ys (omega (arith, w .kept)) ∙ w .kept;
-    }
+  stacked-zero : Stacked f w l₀ l₀ 0
+  stacked-zero = record { text = record { done = put-started f 0 l₀ .done; next = omega (arith, pieces-length 0) }; kept = refl }
 
-pub written-end : {X : Type 0} (f : ℕ → List X) (n : ℕ) (l₀ l : List X) (i : ℕ) → Written (f i) l₀ l → i ≤ n → n ≤ i → l ≡ overlaid 0 (f n) l₀
-written-end f n l₀ l i w a b = let q : i ≡ n = omega arith in rw q at (w .done)
+  stacked-more : (l l′ : List ℕ) (i : ℕ) → Stacked f w l₀ l i → i * w + w ≤ length l₀ → Put (i * w) (f i) l l′ (i * w + w) → Stacked f w l₀ l′ (i + 1)
+  stacked-more l l′ i s room p =
+      record {
+        text = record { done = put-piece f 0 i (i * w) (i * w + w) l₀ l l′ (s .text) p (omega (arith, pieces-length i)) .done; next = omega (arith, pieces-length (i + 1)) };
+        kept = put-length (i * w) (i * w + w) (f i) l l′ p (omega (arith, each i, s .kept)) ∙ s .kept;
+      }
+
+pub stacked-end : (f : ℕ → List ℕ) (w : ℕ) (l₀ l : List ℕ) (i n : ℕ) → Stacked f w l₀ l i → i ≤ n → n ≤ i → l ≡ overlaid 0 (gathered f n) l₀
+stacked-end f w l₀ l i n s a b = let q : i ≡ n = omega arith in rw q at (s .text .done)
 
 -- three places in a row stored
-pub overlaid-three : {X : Type 0} (at : ℕ) (l : List X) (a b c : X) → at + 3 ≤ length l → set (set (set l at a) (at + 1) b) (at + 2) c ≡ overlaid at (a ∷ b ∷ c ∷ []) l
-overlaid-three at l a b c h =
+put-triple : (at : ℕ) (l : List ℕ) (a b c : ℕ) → at + 3 ≤ length l → Put at (a ∷ b ∷ c ∷ []) l (set (set (set l at a) (at + 1) b) (at + 2) c) (at + 3)
+put-triple at l a b c h =
     let l₁ = set l at a in
     let l₂ = set l₁ (at + 1) b in
-    let first : l₁ ≡ overlaid at (a ∷ []) l = overlaid-one at l a (omega arith) in
-    let second : l₂ ≡ overlaid at (a ∷ b ∷ []) l =
-    overlaid-one (at + 1) l₁ b (omega (arith, length-set l at a)) ∙ overlaid-next at (at + 1) l l₁ (a ∷ []) (b ∷ []) first (omega arith) (omega arith) in
-    overlaid-one (at + 2) l₂ c (omega (arith, length-set l at a, length-set l₁ (at + 1) b)) ∙ overlaid-next at (at + 2) l l₂ (a ∷ b ∷ []) (c ∷ []) second (omega arith) (omega arith)
+    let long₁ : length l₁ ≡ length l = length-set l at a in
+    let long₂ : length l₂ ≡ length l₁ = length-set l₁ (at + 1) b in
+    put-three at (at + 1) (at + 2) (at + 3) (a ∷ []) (b ∷ []) (c ∷ []) l l₁ l₂ _ (put-one at a l (omega arith))
+    (record { done = put-one (at + 1) b l₁ (omega arith) .done; next = omega arith }) (record { done = put-one (at + 2) c l₂ (omega arith) .done; next = omega arith }) (omega arith)
 
 -- passages are three numbers each
-pub passages-length : (file : List ℕ) (i : ℕ) → length (passagesOf file i) ≡ 3 * i
-unfolding passagesOf
-passages-length file zero = refl
-passages-length file (suc i) = rw length-append (omega (arith, passages-length file i))
+passage-length : (file : List ℕ) (i : ℕ) → length (passageIn file i) ≡ 3
+unfolding passageIn
+passage-length file i = refl
 
-pub passages-zero : (file l : List ℕ) → Written (passagesOf file 0) l l
-unfolding passagesOf
-passages-zero file l = written-none l
+pub passages-zero : (file l : List ℕ) → Stacked (passageIn file) 3 l l 0
+passages-zero file l = stacked-zero (passageIn file) 3 (passage-length file) l
 
-pub passages-more : (file l₀ l : List ℕ) (i : ℕ) → Written (passagesOf file i) l₀ l → 3 * i + 3 ≤ length l₀ → (a b c : ℕ) → a ≡ word file (passagePlace i + 4) → b ≡ word file (passagePlace i + 6) → c ≡ long file (passagePlace i + 8) → Written (passagesOf file (i + 1)) l₀ (set (set (set l (3 * i) a) (3 * i + 1) b) (3 * i + 2) c)
-unfolding passagesOf
-passages-more file l₀ l i w h a b c p q r =
-    rw (add-one i, ← p, ← q, ← r, overlaid-three (3 * i) l a b c (omega (arith, w .kept))) (written-more (3 * i) (passagesOf file i) (a ∷ b ∷ c ∷ []) l₀ l w (sym (passages-length file i)) h)
+pub passages-more : (file l₀ l : List ℕ) (i : ℕ) → Stacked (passageIn file) 3 l₀ l i → 3 * i + 3 ≤ length l₀ → (a b c : ℕ) → a ≡ word file (passagePlace i + 4) → b ≡ word file (passagePlace i + 6) → c ≡ long file (passagePlace i + 8)
+    → Stacked (passageIn file) 3 l₀ (set (set (set l (3 * i) a) (3 * i + 1) b) (3 * i + 2) c) (i + 1)
+unfolding passageIn
+passages-more file l₀ l i s room a b c p q r =
+    let turn : 3 * i ≡ i * 3 = omega arith in
+    rw turn (stacked-more (passageIn file) 3 (passage-length file) l₀ l _ i s (omega arith) (rw (← p, ← q, ← r) (put-triple (i * 3) l a b c (omega (arith, s .kept)))))
 
 -- rows are n estimates each
-pub estimates-length : (file : List ℕ) (passages n r : ℕ) → length (estimatesOf file passages n r) ≡ r * n
-unfolding estimatesOf
-estimates-length file passages n zero = omega arith
-estimates-length file passages n (suc r) =
-    rw (length-append, made-length, suc-mul, estimates-length file passages n r)
+module _ (file : List ℕ) (passages n : ℕ) (l₀ : List ℕ) where
+  row-length : (r : ℕ) → length (rowIn file passages n r) ≡ n
+  unfolding rowIn
+  row-length r = made-length _ n
 
-pub estimates-zero : (file : List ℕ) (passages n : ℕ) (l : List ℕ) → Written (estimatesOf file passages n 0) l l
-unfolding estimatesOf
-estimates-zero file passages n l = written-none l
+  pub rows-zero : Stacked (rowIn file passages n) n l₀ l₀ 0
+  rows-zero = stacked-zero (rowIn file passages n) n row-length l₀
 
-pub estimates-more : (file : List ℕ) (passages n : ℕ) (l₀ l : List ℕ) (r : ℕ) → Written (estimatesOf file passages n r) l₀ l → r * n + n ≤ length l₀ → (next : List ℕ) → next ≡ overlaid (r * n) (rowOf file (rowPlace passages n r) n) l → Written (estimatesOf file passages n (r + 1)) l₀ next
-unfolding estimatesOf
-estimates-more file passages n l₀ l r w h next e =
-    rw (add-one r, e) (written-more (r * n) (estimatesOf file passages n r) (rowOf file (rowPlace passages n r) n) l₀ l w (sym (estimates-length file passages n r)) (rw made-length h))
+  pub rows-more : (l l′ : List ℕ) (r : ℕ) → Stacked (rowIn file passages n) n l₀ l r → r * n + n ≤ length l₀ → l′ ≡ overlaid (r * n) (rowFrom file (rowPlace passages n r) n) l
+      → Stacked (rowIn file passages n) n l₀ l′ (r + 1)
+  unfolding rowIn
+  rows-more l l′ r s room e =
+      stacked-more (rowIn file passages n) n row-length l₀ l l′ r s room (record { done = e; next = omega (arith, row-length r) })
 
 -- a part of n equal ones, with its length
 pub part-inside : (r n k : ℕ) → r < n → r * k + k ≤ n * k

@@ -14,13 +14,13 @@ use Rattle.laws.specs.Part.{overlaid}
 use Rattle.taskfile.specs.declared.Scan.{Scan}
 use Rattle.taskfile.specs.declared.Outcome.the-variants.{Read}
 use Rattle.taskfile.specs.Bytes.{byte, word}
-use Rattle.taskfile.specs.Scan.{payload, kind, begun, stopped, complete, headAt, passageAt, rowAt, callAt, recordAt, advance, scanned}
-use Rattle.taskfile.specs.Contents.{rowPlace, callPlace, contents, passagesOf, estimatesOf, callsOf, unread, roomyFor, readOf}
+use Rattle.taskfile.specs.Scan.{payloadLength, kind, begun, stopped, complete, headAt, passageAt, rowAt, callAt, recordAt, advance, scanned}
+use Rattle.taskfile.specs.Contents.{rowPlace, callPlace, contents, filePassages, fileEstimates, fileCalls, fileFault, roomyFor, readOf}
 
 -- the record at the scan's place is whole, in a file that is not too long
 pub record Inside (file : List ℕ) (s : Scan) : Type 0 where
   pub short : length file ≤ 65536
-  pub whole : s .at + 4 + payload file (s .at) ≤ length file
+  pub whole : s .at + 4 + payloadLength file (s .at) ≤ length file
 
 -- what holds of every scan: before the head nothing is counted, after it the place follows from the counts
 pub record Placed (file : List ℕ) (s : Scan) : Type 0 where
@@ -55,15 +55,15 @@ module _ (file : List ℕ) where
     placed-fault : (status : ℕ) → (status ≡ 1 → ⊥) → Placed file (stopped s status)
     placed-fault status n = placed-stopped status (λ e. absurd (n e))
 
-    module _ (whole : s .at + 4 + payload file (s .at) ≤ length file) where
+    module _ (whole : s .at + 4 + payloadLength file (s .at) ≤ length file) where
       placed-head : Placed file (headAt file s)
       unfolding headAt
       placed-head =
-          provided-either (Placed file) (eqb (s .n) 0 && eqb (payload file (s .at)) 12) _ _ (placed-fault 22 (λ e. omega arith))
+          provided-either (Placed file) (eqb (s .n) 0 && eqb (payloadLength file (s .at)) 12) _ _ (placed-fault 22 (λ e. omega arith))
           (λ t. provided-either (Placed file) (leb 1 (word file (s .at + 4)) && leb (word file (s .at + 4)) 64) _ _ (placed-fault 23 (λ e. omega arith))
           (λ u.
           let h = p .headless (eqb-true (s .n) 0 (and-left _ _ t)) in
-          let q = eqb-true (payload file (s .at)) 12 (and-right (eqb (s .n) 0) _ t) in
+          let q = eqb-true (payloadLength file (s .at)) 12 (and-right (eqb (s .n) 0) _ t) in
           let one = leb-true 1 (word file (s .at + 4)) (and-left _ _ u) in
           record {
             small = leb-true (word file (s .at + 4)) 64 (and-right (leb 1 (word file (s .at + 4))) _ u);
@@ -77,11 +77,11 @@ module _ (file : List ℕ) where
       placed-passage : Placed file (passageAt file s)
       unfolding passageAt
       placed-passage =
-          provided-either (Placed file) (leb 1 (s .n) && (eqb (s .rows) 0 && eqb (payload file (s .at)) 8)) _ _ (placed-fault 22 (λ e. omega arith))
+          provided-either (Placed file) (leb 1 (s .n) && (eqb (s .rows) 0 && eqb (payloadLength file (s .at)) 8)) _ _ (placed-fault 22 (λ e. omega arith))
           (λ t. provided-either (Placed file) (ltb (s .passages) 512) _ _ (placed-fault 23 (λ e. omega arith))
           (λ u.
           let one = leb-true 1 (s .n) (and-left _ _ t) in
-          let q = eqb-true (payload file (s .at)) 8 (and-right (eqb (s .rows) 0) _ (and-right (leb 1 (s .n)) _ t)) in
+          let q = eqb-true (payloadLength file (s .at)) 8 (and-right (eqb (s .rows) 0) _ (and-right (leb 1 (s .n)) _ t)) in
           record {
             small = p .small;
             few = omega (arith, ltb-true (s .passages) 512 u);
@@ -94,10 +94,10 @@ module _ (file : List ℕ) where
       placed-row : Placed file (rowAt file s)
       unfolding rowAt
       placed-row =
-          provided-either (Placed file) (ltb (s .rows) (s .n) && (eqb (payload file (s .at)) (2 + 4 * s .n) && eqb (word file (s .at + 4)) (s .rows))) _ _ (placed-fault 22 (λ e. omega arith))
+          provided-either (Placed file) (ltb (s .rows) (s .n) && (eqb (payloadLength file (s .at)) (2 + 4 * s .n) && eqb (word file (s .at + 4)) (s .rows))) _ _ (placed-fault 22 (λ e. omega arith))
           (λ t.
           let one = ltb-true (s .rows) (s .n) (and-left _ _ t) in
-          let q = eqb-true (payload file (s .at)) (2 + 4 * s .n) (and-left _ _ (and-right (ltb (s .rows) (s .n)) _ t)) in
+          let q = eqb-true (payloadLength file (s .at)) (2 + 4 * s .n) (and-left _ _ (and-right (ltb (s .rows) (s .n)) _ t)) in
           record {
             small = p .small;
             few = p .few;
@@ -110,10 +110,10 @@ module _ (file : List ℕ) where
       placed-call : Placed file (callAt file s)
       unfolding callAt
       placed-call =
-          provided-either (Placed file) (complete s && (eqb (payload file (s .at)) 2 && leb (byte file (s .at + 4)) 1)) _ _ (placed-fault 22 (λ e. omega arith))
+          provided-either (Placed file) (complete s && (eqb (payloadLength file (s .at)) 2 && leb (byte file (s .at + 4)) 1)) _ _ (placed-fault 22 (λ e. omega arith))
           (λ t.
           let one = leb-true 1 (s .n) (and-left _ _ (and-left (complete s) _ t)) in
-          let q = eqb-true (payload file (s .at)) 2 (and-left _ _ (and-right (complete s) _ t)) in
+          let q = eqb-true (payloadLength file (s .at)) 2 (and-left _ _ (and-right (complete s) _ t)) in
           record {
             small = p .small;
             few = p .few;
@@ -145,8 +145,8 @@ module _ (file : List ℕ) where
         cond-either (Placed file) (eqb (s .status) 0) _ _
         (λ _. cond-either (Placed file) (leb (length file) (s .at)) _ _ (λ t. placed-end (leb-true (length file) (s .at) t))
         (λ f. provided-either (Placed file) (leb 4 (length file - s .at)) _ _ (placed-fault 21 (λ e. omega arith))
-        (λ t. provided-either (Placed file) (leb (payload file (s .at)) (length file - s .at - 4)) _ _ (placed-fault 21 (λ e. omega arith))
-        (λ u. placed-record (omega (arith, leb-true 4 (length file - s .at) t, leb-true (payload file (s .at)) (length file - s .at - 4) u))))))
+        (λ t. provided-either (Placed file) (leb (payloadLength file (s .at)) (length file - s .at - 4)) _ _ (placed-fault 21 (λ e. omega arith))
+        (λ u. placed-record (omega (arith, leb-true 4 (length file - s .at) t, leb-true (payloadLength file (s .at)) (length file - s .at - 4) u))))))
         (λ _. p)
 
   -- so the scan after i records is placed
@@ -185,14 +185,14 @@ calls-few file s p l = go (leb 1 (s .n)) refl
     go false e = let z : s .n ≡ 0 = omega (arith, leb-false 1 (s .n) e) in omega (arith, p .headless z .1 .1)
 
 -- a scan that ended well: its counts fill the file
-pub record Whole (file : List ℕ) (s : Scan) : Type 0 where
+pub record Scanned (file : List ℕ) (s : Scan) : Type 0 where
   pub small : s .n ≤ 64
   pub few : s .passages ≤ 512
   pub filled : callPlace (s .passages) (s .n) (s .calls) ≡ length file
 
-pub whole : (file : List ℕ) (s : Scan) → s ≡ scanned file → s .status ≡ 1 → Whole file s
+pub scanned-is : (file : List ℕ) (s : Scan) → s ≡ scanned file → s .status ≡ 1 → Scanned file s
 unfolding scanned
-whole file s e d =
+scanned-is file s e d =
     let p = placed file s (length file + 1) e in
     let h = p .ended d in
     let q : s .rows ≡ s .n = eqb-true (s .rows) (s .n) (and-right (leb 1 (s .n)) _ (h .0)) in
@@ -201,26 +201,26 @@ whole file s e d =
 
 -- reading, by what the scan and the slices come to
 module _ (file passages estimates calls : List ℕ) where
-  pub read-long : 65536 < length file → readOf file passages estimates calls ≡ unread 23 65536 passages estimates calls
+  pub read-long : 65536 < length file → readOf file passages estimates calls ≡ fileFault 23 65536 passages estimates calls
   unfolding readOf
   read-long l = rw (lt-leb (length file) 65536 l)
 
   module _ (short : length file ≤ 65536) (s : Scan) (e : s ≡ scanned file) where
-    pub read-fault : (s .status ≡ 1 → ⊥) → readOf file passages estimates calls ≡ unread (s .status) (s .at) passages estimates calls
+    pub read-fault : (s .status ≡ 1 → ⊥) → readOf file passages estimates calls ≡ fileFault (s .status) (s .at) passages estimates calls
     unfolding readOf
     read-fault n = rw (le-leb (length file) 65536 short, ← e, ne-eqb (s .status) 1 n)
 
     module _ (d : s .status ≡ 1) where
-      pub read-short : roomyFor s (length passages) (length estimates) (length calls) ≡ false → readOf file passages estimates calls ≡ unread 27 0 passages estimates calls
+      pub read-short : roomyFor s (length passages) (length estimates) (length calls) ≡ false → readOf file passages estimates calls ≡ fileFault 27 0 passages estimates calls
       unfolding readOf
       read-short r = rw (le-leb (length file) 65536 short, ← e, eq-eqb (s .status) 1 d, r)
 
       pub read-all : roomyFor s (length passages) (length estimates) (length calls) ≡ true
           → readOf file passages estimates calls ≡ record {
             outcome = Read (contents file s);
-            passages = overlaid 0 (passagesOf file (s .passages)) passages;
-            estimates = overlaid 0 (estimatesOf file (s .passages) (s .n) (s .n)) estimates;
-            calls = overlaid 0 (callsOf file (s .passages) (s .n) (s .calls)) calls;
+            passages = overlaid 0 (filePassages file (s .passages)) passages;
+            estimates = overlaid 0 (fileEstimates file (s .passages) (s .n)) estimates;
+            calls = overlaid 0 (fileCalls file (s .passages) (s .n) (s .calls)) calls;
           }
       unfolding readOf
       read-all r = rw (le-leb (length file) 65536 short, ← e, eq-eqb (s .status) 1 d, r)

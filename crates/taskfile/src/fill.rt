@@ -3,7 +3,8 @@ ghost use mathlib.Core.Path.{_≡_};
 ghost use Prim.Native.Nat.{_+_, _*_, _≤_};
 ghost use lib.ListN.{length};
 ghost use Rattle.laws.specs.Part.{overlaid};
-ghost use Rattle.taskfile.specs.Contents.{contents, roomyFor, passagesOf, rowOf, estimatesOf, callsOf, passagePlace, rowPlace, callPlace};
+ghost use Rattle.taskfile.specs.Contents.{contents, roomyFor, filePassages, fileEstimates, fileCalls, passagePlace, rowPlace, callPlace};
+ghost use Rattle.taskfile.specs.FillLaws.{rowFrom};
 use super::Contents;
 use super::Scan;
 use super::bytes;
@@ -42,7 +43,7 @@ pub fn roomy(s: Scan, passages: usize, estimates: usize, calls: usize) -> bool
 // The passages, three numbers each.
 pub fn put_passages(file: &[u8], count: usize, passages: &mut [u32])
     requires { ⌜ (count ≤ 512) × ((passagePlace count ≤ length (now file)) × (3 * count ≤ length (now passages))) ⌝ }
-    ensures { λ _. ⌜ now (passages .exit) ≡ overlaid 0 (passagesOf (now (file .entry)) count) (now (passages .entry)) ⌝ }
+    ensures { λ _. ⌜ now (passages .exit) ≡ overlaid 0 (filePassages (now (file .entry)) count) (now (passages .entry)) ⌝ }
 {
     for i in 0..count {
         let at = 16 + 12 * i;
@@ -55,7 +56,7 @@ pub fn put_passages(file: &[u8], count: usize, passages: &mut [u32])
 // One row of estimates, from the place `to` on.
 pub fn put_row(file: &[u8], at: usize, n: usize, estimates: &mut [u32], to: usize)
     requires { ⌜ (n ≤ 64) × ((at + (6 + 4 * n) ≤ length (now file)) × (to + n ≤ length (now estimates))) ⌝ }
-    ensures { λ _. ⌜ now (estimates .exit) ≡ overlaid to (rowOf (now (file .entry)) at n) (now (estimates .entry)) ⌝ }
+    ensures { λ _. ⌜ now (estimates .exit) ≡ overlaid to (rowFrom (now (file .entry)) at n) (now (estimates .entry)) ⌝ }
 {
     for c in 0..n {
         estimates[to + c] = bytes::long(file, at + 6 + 4 * c);
@@ -65,7 +66,7 @@ pub fn put_row(file: &[u8], at: usize, n: usize, estimates: &mut [u32], to: usiz
 // All rows.
 pub fn put_rows(file: &[u8], passages: usize, n: usize, estimates: &mut [u32])
     requires { ⌜ ((passages ≤ 512) × (n ≤ 64)) × ((rowPlace passages n n ≤ length (now file)) × (n * n ≤ length (now estimates))) ⌝ }
-    ensures { λ _. ⌜ now (estimates .exit) ≡ overlaid 0 (estimatesOf (now (file .entry)) passages n n) (now (estimates .entry)) ⌝ }
+    ensures { λ _. ⌜ now (estimates .exit) ≡ overlaid 0 (fileEstimates (now (file .entry)) passages n) (now (estimates .entry)) ⌝ }
 {
     for r in 0..n {
         let at = 16 + 12 * passages + r * (6 + 4 * n);
@@ -76,7 +77,7 @@ pub fn put_rows(file: &[u8], passages: usize, n: usize, estimates: &mut [u32])
 // The calls, a number each.
 pub fn put_calls(file: &[u8], passages: usize, n: usize, count: usize, calls: &mut [u32])
     requires { ⌜ ((passages ≤ 512) × (n ≤ 64)) × ((callPlace passages n count ≤ length (now file)) × (count ≤ length (now calls))) ⌝ }
-    ensures { λ _. ⌜ now (calls .exit) ≡ overlaid 0 (callsOf (now (file .entry)) passages n count) (now (calls .entry)) ⌝ }
+    ensures { λ _. ⌜ now (calls .exit) ≡ overlaid 0 (fileCalls (now (file .entry)) passages n count) (now (calls .entry)) ⌝ }
 {
     let from = 16 + 12 * passages + n * (6 + 4 * n);
     for i in 0..count {

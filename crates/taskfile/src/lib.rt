@@ -1,6 +1,7 @@
 // The task file's reader. A file is scanned whole, record by record, before anything is written; then its passages,
 // estimates and calls go to the three slices that are lent for them.
 mod bytes;
+mod faults;
 mod fill;
 mod records;
 
@@ -44,14 +45,14 @@ pub fn read(file: &[u8], passages: &mut [u32], estimates: &mut [u32], calls: &mu
     ensures { λ r. ⌜ now (calls .exit) ≡ readOf (now (file .entry)) (now (passages .entry)) (now (estimates .entry)) (now (calls .entry)) .calls ⌝ }
 {
     if file.len() > 65536 {
-        return Outcome::Fault(23, 65536);
+        return Outcome::Fault(faults::TOO_LARGE, 65536);
     }
     let s = records::scan(file);
-    if s.status != 1 {
+    if s.status != faults::ALL_READ {
         return Outcome::Fault(s.status, s.at);
     }
     if !fill::roomy(s, passages.len(), estimates.len(), calls.len()) {
-        return Outcome::Fault(27, 0);
+        return Outcome::Fault(faults::SHORT_SLICE, 0);
     }
     fill::put_passages(file, s.passages, passages);
     fill::put_rows(file, s.passages, s.n, estimates);

@@ -2,10 +2,11 @@
 ghost use mathlib.Core.Path.{_≡_};
 ghost use Prim.Native.Nat.{_+_, _*_, _-_, _≤_, _<_};
 ghost use lib.ListN.{length};
-ghost use Rattle.taskfile.specs.Scan.{stopped, headAt, passageAt, rowAt, callAt, recordAt, advance, scanned, payload, complete};
+ghost use Rattle.taskfile.specs.Scan.{stopped, headAt, passageAt, rowAt, callAt, recordAt, advance, scanned, complete};
 ghost use Rattle.taskfile.specs.Laws.{Inside};
 use super::Scan;
 use super::bytes;
+use super::faults;
 
 // The scan stops at its record.
 pub fn stopped(s: Scan, status: u8) -> Scan
@@ -38,17 +39,17 @@ pub fn head_at(file: &[u8], s: Scan) -> Scan
 {
     let at = s.at;
     if s.n != 0 {
-        return stopped(s, 22);
+        return stopped(s, faults::OUT_OF_ORDER);
     }
     if bytes::word(file, at) != 12 {
-        return stopped(s, 22);
+        return stopped(s, faults::OUT_OF_ORDER);
     }
     let n = bytes::word(file, at + 4);
     if n < 1 {
-        return stopped(s, 23);
+        return stopped(s, faults::TOO_LARGE);
     }
     if n > 64 {
-        return stopped(s, 23);
+        return stopped(s, faults::TOO_LARGE);
     }
     Scan {
         at: at + 16,
@@ -67,16 +68,16 @@ pub fn passage_at(file: &[u8], s: Scan) -> Scan
 {
     let at = s.at;
     if s.n < 1 {
-        return stopped(s, 22);
+        return stopped(s, faults::OUT_OF_ORDER);
     }
     if s.rows != 0 {
-        return stopped(s, 22);
+        return stopped(s, faults::OUT_OF_ORDER);
     }
     if bytes::word(file, at) != 8 {
-        return stopped(s, 22);
+        return stopped(s, faults::OUT_OF_ORDER);
     }
     if s.passages >= 512 {
-        return stopped(s, 23);
+        return stopped(s, faults::TOO_LARGE);
     }
     Scan {
         at: at + 12,
@@ -95,13 +96,13 @@ pub fn row_at(file: &[u8], s: Scan) -> Scan
 {
     let at = s.at;
     if s.rows >= s.n {
-        return stopped(s, 22);
+        return stopped(s, faults::OUT_OF_ORDER);
     }
     if bytes::word(file, at) != 2 + 4 * s.n {
-        return stopped(s, 22);
+        return stopped(s, faults::OUT_OF_ORDER);
     }
     if bytes::word(file, at + 4) != s.rows {
-        return stopped(s, 22);
+        return stopped(s, faults::OUT_OF_ORDER);
     }
     Scan {
         at: at + (6 + 4 * s.n),
@@ -120,13 +121,13 @@ pub fn call_at(file: &[u8], s: Scan) -> Scan
 {
     let at = s.at;
     if !complete(s) {
-        return stopped(s, 22);
+        return stopped(s, faults::OUT_OF_ORDER);
     }
     if bytes::word(file, at) != 2 {
-        return stopped(s, 22);
+        return stopped(s, faults::OUT_OF_ORDER);
     }
     if bytes::byte(file, at + 4) > 1 {
-        return stopped(s, 22);
+        return stopped(s, faults::OUT_OF_ORDER);
     }
     Scan {
         at: at + 6,
@@ -156,7 +157,7 @@ pub fn record_at(file: &[u8], s: Scan) -> Scan
     if kind == 4 {
         return call_at(file, s);
     }
-    stopped(s, 22)
+    stopped(s, faults::OUT_OF_ORDER)
 }
 
 // One record more, or the end.
@@ -170,16 +171,16 @@ pub fn advance(file: &[u8], s: Scan) -> Scan
     }
     if at >= file.len() {
         if complete(s) {
-            return stopped(s, 1);
+            return stopped(s, faults::ALL_READ);
         }
-        return stopped(s, 21);
+        return stopped(s, faults::CUT_SHORT);
     }
     let left = file.len() - at;
     if left < 4 {
-        return stopped(s, 21);
+        return stopped(s, faults::CUT_SHORT);
     }
     if bytes::word(file, at) > left - 4 {
-        return stopped(s, 21);
+        return stopped(s, faults::CUT_SHORT);
     }
     record_at(file, s)
 }

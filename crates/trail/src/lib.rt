@@ -1,11 +1,11 @@
 // Path reading without the machine: going back from the goal over passage numbers, and writing the states met, start
 // first, into the part of a buffer that is lent for them.
 ghost use mathlib.Core.Path.{_≡_};
-ghost use mathlib.Core.List.{_++_};
+ghost use mathlib.Core.List.{[], _++_};
 ghost use Prim.Native.Nat.{_≤_, _<_};
 ghost use lib.ListN.{length, drop};
-ghost use Rattle.trail.specs.Trail.{trail, isHome, isLinked, pathLength, statesBack};
-ghost use Rattle.trail.specs.Laws.{Inside, Followed};
+ghost use Rattle.trail.specs.Trail.{trail, isHome, isLinked, path};
+ghost use Rattle.trail.specs.Laws.{Inside, Followed, statesBack};
 
 // s, with this label, is the start with label 0.
 pub fn is_home(start: usize, s: usize, label: u32) -> bool
@@ -46,7 +46,7 @@ pub fn path_length<'a>(
     goal: usize,
 ) -> usize
     requires { ⌜ Inside (now passages) × ((goal < 256) × (n ≤ 256)) ⌝ }
-    ensures { λ r. ⌜ r ≡ pathLength (trail n start goal (now (passages .entry)) (now (label .entry)) (now (via .entry))) ⌝ }
+    ensures { λ r. ⌜ r ≡ length (path (trail n start goal (now (passages .entry)) (now (label .entry)) (now (via .entry)))) ⌝ }
 {
     let mut s = goal;
     for i in 0..n {
@@ -63,8 +63,8 @@ pub fn path_length<'a>(
 
 // The first count states back from the goal, into the first places of part, the goal at the last of them.
 pub fn write_back(part: &mut [u16], via: &[u16; 256], passages: &[u32], goal: usize, count: usize)
-    requires { ⌜ Followed (now passages) (now via) goal count × (count ≤ length (now part)) ⌝ }
-    ensures { λ _. ⌜ now (part .exit) ≡ statesBack (now (passages .entry)) (now (via .entry)) goal count ++ drop count (now (part .entry)) ⌝ }
+    requires { ⌜ Followed (now passages) (now via) count goal × (count ≤ length (now part)) ⌝ }
+    ensures { λ _. ⌜ now (part .exit) ≡ statesBack (now (passages .entry)) (now (via .entry)) count goal [] ++ drop count (now (part .entry)) ⌝ }
 {
     let mut s = goal;
     let mut i: usize = 0;

@@ -62,7 +62,7 @@ impl<'a> Watch<'a> {
             Some(shortest) if cost < shortest => {
                 Err(format!("Found {cost}, but the shortest is {shortest}"))
             }
-            Some(shortest) if 100 * cost > u64::from(self.task.head.excess) * shortest => {
+            Some(shortest) if 100 * cost > self.task.head.excess as u64 * shortest => {
                 Err(format!("Found {cost}, too far above {shortest}"))
             }
             Some(_) => Ok(()),
@@ -172,14 +172,14 @@ impl Waiting<'_> {
     }
 
     fn key(&self, state: usize) -> u64 {
-        let pull = u64::from(self.machine.head.pull);
+        let pull = self.machine.head.pull as u64;
         self.hundredfold(state) + pull * self.estimate(state, self.machine.head.goal)
     }
 
     /// Whether `state` is not independent of `other`; the label subtracted there
     /// is added here on the other side.
     fn depends(&self, state: usize, other: usize) -> bool {
-        let excess = u64::from(self.machine.head.excess);
+        let excess = self.machine.head.excess as u64;
         self.hundredfold(state) > self.hundredfold(other) + excess * self.estimate(other, state)
     }
 

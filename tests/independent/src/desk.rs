@@ -51,8 +51,22 @@ pub struct Head {
     pub k: usize,
     pub start: usize,
     pub goal: usize,
-    pub pull: u16,
-    pub excess: u16,
+    pub pull: usize,
+    pub excess: usize,
+}
+
+impl Head {
+    /// The numbers in the order in which a row and a task file have them.
+    pub fn numbers(&self) -> [usize; 6] {
+        [
+            self.n,
+            self.k,
+            self.start,
+            self.goal,
+            self.pull,
+            self.excess,
+        ]
+    }
 }
 
 /// The lent slices: passages as (from, to, cost), estimates h(a,b) at a * n + b.
@@ -262,7 +276,7 @@ impl Machine {
     /// state is independent of itself, since 0 <= E * h.
     fn first_dependence(&self, graph: Graph, live: &[u16], state: usize) -> Option<u16> {
         let label = i64::from(self.labels[state]);
-        let excess = i64::from(self.head.excess);
+        let excess = self.head.excess as i64;
         live.iter().copied().find(|&t| {
             let t = usize::from(t);
             let h = i64::from(graph.estimates[t * self.head.n + state]);
@@ -272,7 +286,7 @@ impl Machine {
 
     fn key(&self, graph: Graph, state: usize) -> u64 {
         let h = graph.estimates[state * self.head.n + self.head.goal];
-        100 * u64::from(self.labels[state]) + u64::from(self.head.pull) * u64::from(h)
+        100 * u64::from(self.labels[state]) + self.head.pull as u64 * u64::from(h)
     }
 
     /// The safe open state with the smallest key, the lowest among equals.

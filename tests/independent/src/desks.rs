@@ -54,9 +54,12 @@ impl<'a> Desks<'a> {
         }
     }
 
+    /// Openings with a weight wider than 16 bits are counted apart.
     pub fn open(&mut self, task: &Task, row: &mut [u32]) -> Checked<Reply> {
         self.show(|| format!("open {task:?}"));
-        self.both("open", row, |desk, row| desk.open(task, row))
+        let is_wide = task.head.pull.max(task.head.excess) > usize::from(u16::MAX);
+        let what = if is_wide { "open-wide" } else { "open" };
+        self.both(what, row, |desk, row| desk.open(task, row))
     }
 
     pub fn call(

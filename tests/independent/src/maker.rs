@@ -81,9 +81,9 @@ pub fn task_of(rng: &mut Rng, n: usize) -> Task {
 }
 
 fn head(rng: &mut Rng, n: usize) -> Head {
-    let any_excess = rng.between(100, 10_000) as u16;
+    let any_excess = rng.between(100, 10_000);
     let excess = rng.pick(&[100, 100, 101, 150, 200, 300, 299, 1000, 10_000, any_excess]);
-    let any_pull = rng.between(0, usize::from(excess)) as u16;
+    let any_pull = rng.between(0, excess);
     let widest = rng.pick(&[1, 2, 3, 4, 8, 32]);
     let start = rng.below(n);
     let other = (start + rng.below(n.max(2) - 1) + 1) % n;
@@ -201,6 +201,7 @@ pub fn broken_task(rng: &mut Rng) -> Task {
         match rng.below(7) {
             0 => break_sizes(rng, &mut task),
             1 => break_ends(rng, &mut task.head),
+            2 if rng.percent(50) => widen_weight(rng, &mut task.head),
             2 => break_weights(rng, &mut task.head),
             3 => break_passage(rng, &mut task),
             4 => break_estimate(rng, &mut task),
@@ -235,6 +236,26 @@ fn break_ends(rng: &mut Rng, head: &mut Head) {
     }
 }
 
+/// Makes a weight wider than 16 bits, mostly so that what is left of it, cut to
+/// fewer bits, would pass; also the widest of 16 bits.
+fn widen_weight(rng: &mut Rng, head: &mut Head) {
+    let weight = match rng.percent(50) {
+        true => &mut head.pull,
+        false => &mut head.excess,
+    };
+    let looks_good = *weight + (1 << rng.pick(&[16, 17, 31, 32, 48, 63]));
+    *weight = rng.pick(&[
+        65_535,
+        65_536,
+        65_636,
+        (1 << 32) + 100,
+        usize::MAX,
+        looks_good,
+        looks_good,
+    ]);
+}
+
+/// Changes a weight to one that a task file can carry.
 fn break_weights(rng: &mut Rng, head: &mut Head) {
     match rng.below(3) {
         0 => head.excess = rng.pick(&[0, 99, 10_001, 65_535]),
@@ -424,12 +445,9 @@ fn made_up_task(rng: &mut Rng) -> Task {
 fn made_up_row(rng: &mut Rng, task: &Task) -> Vec<u32> {
     let head = &task.head;
     let mut row = junk_row(rng);
-    let sizes = [head.n, head.k, head.start, head.goal];
-    for (place, size) in row.iter_mut().zip(sizes) {
-        *place = size as u32;
+    for (place, number) in row.iter_mut().zip(head.numbers()) {
+        *place = number as u32;
     }
-    row[4] = u32::from(head.pull);
-    row[5] = u32::from(head.excess);
     row[PHASE] = rng.pick(&[0, 0, 0, 0, 1, 1, 1, 2]);
     row[HELD..][..head.k].fill(u32::from(NONE));
     let marks = rng.pick(&[[0, 1, 1, 3], [0, 0, 1, 3], [1, 1, 1, 1], [0, 0, 3, 3]]);
@@ -716,8 +734,7 @@ fn file_records(rng: &mut Rng) -> Vec<Record> {
 
 fn task_records(task: &Task) -> Vec<Record> {
     let head = &task.head;
-    let sizes = [head.n, head.k, head.start, head.goal].map(|size| size as u16);
-    let numbers = sizes.into_iter().chain([head.pull, head.excess]);
+    let numbers = head.numbers().map(|number| number as u16).into_iter();
     let mut records = vec![Record::new(1, numbers.flat_map(u16::to_le_bytes).collect())];
     for p in task.passages.chunks_exact(3) {
         let ends = [p[0] as u16, p[1] as u16]

@@ -125,8 +125,8 @@ pub fn decode(row: &[u32]) -> Option<Machine> {
         k: row[1] as usize,
         start: row[2] as usize,
         goal: row[3] as usize,
-        pull: row[4] as u16,
-        excess: row[5] as u16,
+        pull: row[4] as usize,
+        excess: row[5] as usize,
     };
     Some(Machine {
         head,
@@ -145,11 +145,8 @@ fn all_below_power(numbers: &[u32], bits: u32) -> bool {
 
 /// Writes a machine into a row of the right length.
 pub fn encode(machine: &Machine, row: &mut [u32]) {
-    let head = &machine.head;
-    let sizes = [head.n, head.k, head.start, head.goal];
-    fill(&mut row[..4], sizes.iter().map(|&size| size as u32));
-    row[4] = u32::from(head.pull);
-    row[5] = u32::from(head.excess);
+    let head = machine.head.numbers();
+    fill(&mut row[..PHASE], head.iter().map(|&number| number as u32));
     row[PHASE] = u32::from(machine.phase);
     fill(
         &mut row[MARKS..LABELS],

@@ -152,6 +152,21 @@ const DOCUMENT_01: &[Run] = &[
         },
     },
     Run {
+        name: "W or E wider than 16 bits: 3",
+        check: |desk| {
+            for weight in [65_536, 65_636, (1 << 32) + 100, usize::MAX] {
+                let mut task = task_a();
+                task.head.pull = weight;
+                expect_opening(desk, &task, Reply::Refused(3))?;
+                task.head.excess = weight;
+                expect_opening(desk, &task, Reply::Refused(3))?;
+                task.head.pull = 100;
+                expect_opening(desk, &task, Reply::Refused(3))?;
+            }
+            Ok(())
+        },
+    },
+    Run {
         name: "worker 2 of 2: 9",
         check: |desk| {
             let refused = [Reply::Refused(9), Reply::Refused(9)];
@@ -185,7 +200,7 @@ pub fn task_a() -> Task {
     }
 }
 
-fn task_b(excess: u16) -> Task {
+fn task_b(excess: usize) -> Task {
     let mut task = task_a();
     task.head.excess = excess;
     task.estimates = (0..25).map(|place| u32::from(place % 6 != 0)).collect();

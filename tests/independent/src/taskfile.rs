@@ -98,8 +98,8 @@ impl Reader {
             k: usize::from(number(1)),
             start: usize::from(number(2)),
             goal: usize::from(number(3)),
-            pull: number(4),
-            excess: number(5),
+            pull: usize::from(number(4)),
+            excess: usize::from(number(5)),
         });
         self.estimates.reserve_exact(n * n);
         Ok(())

@@ -97,6 +97,10 @@ fn opening_refuses_by_number() {
         (Some(3), changed(|t| t.head.excess = 10_001)),
         (None, changed(|t| t.head.excess = 10_000)),
         (Some(3), changed(|t| t.head.pull = 101)),
+        (Some(3), changed(|t| t.head.pull = 65_636)),
+        (Some(3), changed(|t| t.head.excess = 65_636)),
+        (Some(3), changed(|t| t.head.excess = (1 << 32) + 100)),
+        (Some(3), changed(|t| t.head.excess = usize::MAX)),
         (Some(4), changed(|t| t.passages[0] = 5)),
         (Some(4), changed(|t| t.passages[1] = 5)),
         (Some(4), changed(|t| t.passages[2] = 1_000_001)),
@@ -293,15 +297,14 @@ fn literal_take(machine: &Machine, graph: Graph) -> Reply {
     let live = |t: usize| machine.marks[t] == OPEN || machine.marks[t] == OUT;
     let h = |a: usize, b: usize| i128::from(graph.estimates[a * n + b]);
     let label = |s: usize| i128::from(machine.labels[s]);
-    let independent = |s: usize, t: usize| {
-        100 * (label(s) - label(t)) <= i128::from(machine.head.excess) * h(t, s)
-    };
+    let independent =
+        |s: usize, t: usize| 100 * (label(s) - label(t)) <= machine.head.excess as i128 * h(t, s);
     let depends = |s: usize, t: usize| t != s && live(t) && !independent(s, t);
     let safe = |s: usize| !(0..n).any(|t| depends(s, t));
     let open = |s: usize| machine.marks[s] == OPEN;
     let out = |s: usize| machine.marks[s] == OUT;
     let goal = machine.head.goal;
-    let key = |s: usize| 100 * label(s) + i128::from(machine.head.pull) * h(s, goal);
+    let key = |s: usize| 100 * label(s) + machine.head.pull as i128 * h(s, goal);
     if open(goal) && safe(goal) {
         return Reply::Found(machine.labels[goal]);
     }
@@ -629,6 +632,8 @@ struct Wrong {
     print: fn(&mut [u8], usize) -> usize,
     /// What it takes a passage's cost for, but in files.
     cost: fn(u32) -> u32,
+    /// What it takes a weight for, but in files.
+    weight: fn(usize) -> usize,
 }
 
 /// A stand-in with nothing wrong, to be changed.
@@ -640,6 +645,7 @@ const RIGHT: Wrong = Wrong {
     map_state: |state| state,
     print: |_, length| length,
     cost: |cost| cost,
+    weight: |weight| weight,
 };
 
 impl Wrong {
@@ -662,6 +668,8 @@ impl RowDesk for Wrong {
     fn open(&self, task: &Task, row: &mut [u32]) -> u64 {
         let mut task = task.clone();
         task.passages = self.passages(&task.passages);
+        task.head.pull = (self.weight)(task.head.pull);
+        task.head.excess = (self.weight)(task.head.excess);
         Independent.open(&task, row)
     }
     fn take(&self, row: &mut [u32], graph: Graph, worker: usize) -> u64 {
@@ -726,6 +734,15 @@ fn comparison_sees_a_wrong_reply_and_a_wrong_number() {
     }
 }
 
+#[test]
+fn comparison_sees_weights_that_are_cut() {
+    let cuts: &[fn(usize) -> usize] = &[|weight| weight % 65_536, |weight| weight as u32 as usize];
+    for &weight in cuts {
+        let wrong = Wrong { weight, ..RIGHT };
+        assert!(count_differences(Some(&wrong), 3000).0 > 0);
+    }
+}
+
 /// The cases meet every reply and every refusal and fault but 12 and 27: the
 /// open state of the smallest label depends on no open one, so 12 is not met on
 /// any machine; the file reader here lends no slices.
@@ -756,6 +773,7 @@ fn cases_meet_everything() {
         words.iter().for_each(|word| met(call, word, &[0]));
     }
     met("open", "refused", &[1, 2, 3, 4, 5, 6, 7, 8]);
+    met("open-wide", "refused", &[1, 2, 3]);
     met("take", "refused", &[8, 9, 10, 11]);
     met("bring", "refused", &[8, 9, 10, 11]);
     met("path", "refused", &[8, 13, 14, 15]);

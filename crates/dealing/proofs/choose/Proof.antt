@@ -45,7 +45,7 @@ held :
 held c = depends-other _ _ _ _ true (c .before .before .before .before .before .if4 .taken) (c .before .before .before .before .estimate2 .ensures) (sym (c .if5 .taken) ∙ c .before .holds-back .ensures)
 
 candidates-holds : tie.Need-candidates-holds Inv-loop μ-loop Inv-candidates μ-candidates
-candidates-holds c = (search needs, leads-zero _ _ _ 0 0 _)
+candidates-holds c = (search needs, leads-zero _ _ _ _ _ _)
 
 add-next : tie.Need-add-next Inv-loop μ-loop Inv-candidates μ-candidates
 add-next c = search needs
@@ -176,18 +176,18 @@ candidates-again-6 c =
 
 returns : tie.Need-returns Inv-loop μ-loop Inv-candidates μ-candidates
 returns c =
-    let o = c .before .before .candidates in
-    leads-chosen _ _ _ _ _ _ _ _ _ (o .inv .1) (o .inv .0) (c .before .candidates-test .left) (c .if8 .taken)
+    let o = c .before .before .before .candidates in
+    leads-stopped _ _ _ _ _ _ _ _ _ (o .inv .1) (o .inv .0) (c .before .before .candidates-test .left) (c .before .if8 .taken) (c .if9 .taken)
 
 returns-2 : tie.Need-returns-2 Inv-loop μ-loop Inv-candidates μ-candidates
 returns-2 c =
     let o = c .before .before .before .candidates in
-    leads-stopped _ _ _ _ _ _ _ _ _ (o .inv .1) (o .inv .0) (c .before .before .candidates-test .left) (c .before .if8 .left) (c .if9 .taken)
+    leads-none _ _ _ _ _ _ _ _ _ (o .inv .1) (o .inv .0) (c .before .before .candidates-test .left) (c .before .if8 .taken) (c .if9 .left)
 
 returns-3 : tie.Need-returns-3 Inv-loop μ-loop Inv-candidates μ-candidates
 returns-3 c =
-    let o = c .before .before .before .candidates in
-    leads-none _ _ _ _ _ _ _ _ _ (o .inv .1) (o .inv .0) (c .before .before .candidates-test .left) (c .before .if8 .left) (c .if9 .left)
+    let o = c .before .before .candidates in
+    leads-chosen _ _ _ _ _ _ _ _ _ (o .inv .1) (o .inv .0) (c .before .candidates-test .left) (c .if8 .left)
 
 pub choose-spec : {M : Type 1} → statement M
 choose-spec =

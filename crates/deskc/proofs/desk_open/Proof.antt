@@ -1,10 +1,11 @@
--- `desk_open`: a row of another length is left as it was; else the task's numbers and what a call can change fill the whole row.
+-- `desk_open`: a row of another length is left as it was; else the task's numbers and what a call can change fill the whole row. The answer to the clamped weights is the one to the weights as they were given.
 use mathlib.Core.Path.{refl, _∙_}
 use denote.Ref.{now}
 use borrow.Author.Tests.{eq-eqb, ne-eqb}
 use borrow.Author.Needs.{needs}
 use Rattle.deskc.specs.Calls.{openRow}
-use Rattle.deskc.specs.Laws.{Sized, packed-parts, opened-small}
+use Rattle.desk.specs.Laws.{Sized}
+use Rattle.deskc.specs.Laws.{packed-parts, opened-small, opening-clamped}
 use Rattle.deskc.proofs.desk_open.Statement.{statement}
 use Rattle.deskc.proofs.desk_open.Tie as tie
 
@@ -20,11 +21,17 @@ returns : tie.Need-returns
 unfolding openRow
 returns c = let e = ne-eqb _ 807 (c .before .if1 .taken) in (rw e (c .unfit .ensures), rw e refl)
 
+clamp-requires : tie.Need-clamp-requires
+clamp-requires c κs = search needs
+
+clamp-requires-2 : tie.Need-clamp-requires-2
+clamp-requires-2 c κs = search needs
+
 opening-requires : tie.Need-opening-requires
 opening-requires c κs = search needs
 
 put-head-requires : tie.Need-put-head-requires
-put-head-requires c κs = let o = c .before .before in (o .before .if1 .left, rw (o .opening .ensures) (opened-small _))
+put-head-requires c κs = let o = c .before .before in (o .before .before .before .if1 .left, rw (o .opening .ensures) (opened-small _))
 
 put-changing-requires : tie.Need-put-changing-requires
 put-changing-requires c κs = search needs
@@ -41,9 +48,11 @@ returns-2 c =
     let p = c .before .before .before in
     let h = p .before .before .before .before in
     let o = h .before .before .before in
-    let s = o .before .before .before .before .before in
-    let e = eq-eqb _ 807 (o .before .if1 .left) in
-    (rw (e, ← (o .opening .ensures)) (c .code .ensures), rw (e, ← (o .opening .ensures)) (p .put-changing .ensures ∙ packed-parts (now (s .args .machine)) _ _ (o .before .if1 .left) (sized o) (h .put-head .ensures)))
+    let b = o .before .before .before in
+    let s = b .before .before .before .before in
+    let e = eq-eqb _ 807 (b .if1 .left) in
+    let g = rw (o .before .before .clamp .ensures, o .before .clamp2 .ensures) at (o .opening .ensures) ∙ opening-clamped _ _ _ _ _ _ _ _ in
+    (rw (e, ← g) (c .code .ensures), rw (e, ← g) (p .put-changing .ensures ∙ packed-parts (now (s .args .machine)) _ _ (b .if1 .left) (sized o) (h .put-head .ensures)))
 
 pub desk-open-spec : {M : Type 1} → statement M
 desk-open-spec =
@@ -51,6 +60,8 @@ desk-open-spec =
     (tie.spec
     unfit-requires
     returns
+    clamp-requires
+    clamp-requires-2
     opening-requires
     put-head-requires
     put-changing-requires

@@ -13,6 +13,7 @@ use Rattle.gridmap.specs.Reading.{mapFault, roomy}
 use Rattle.gridmap.specs.Laws.{mapWith, Small}
 use Rattle.gridmap.specs.HeadLaws.{small-head}
 use Rattle.gridmap.specs.CellLaws.{cells-length, cells-low}
+use Rattle.gridmap.specs.EstimateLaws.{table-is}
 use Rattle.gridmap.specs.RowLaws.{row-front, row-room}
 use Rattle.gridmap.specs.ReadingLaws.{map-is, read-refused, read-short, read-drawn}
 use Rattle.gridmap.proofs.read_map.Statement.{statement}
@@ -167,7 +168,7 @@ returns-4 c =
     let q = read-drawn (s .text .now) (s .passages .now) (s .estimates .now) _ (h .head-of .ensures) (sound (h .before))
     (tests b ∙ rw (le-leb _ _ (e .before .if2 .left), le-leb _ _ (e .if3 .left))) in (
       rw (q, ← f .before .before .count-open .ensures, ← b .count-passages .ensures .0),
-      (rw q (c .before .before .before .before .before .before .before .before .put-passages .ensures), rw q (rw (front f) at (c .before .before .put-estimates .ensures))),
+      (rw q (c .before .before .before .before .before .before .before .before .put-passages .ensures), rw (q, ← table-is) (rw (front f) at (c .before .before .put-estimates .ensures))),
     )
 
 pub read-map-spec : {M : Type 1} → statement M

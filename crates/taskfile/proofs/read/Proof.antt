@@ -10,18 +10,18 @@ use borrow.Author.Tests.{not-true, not-false}
 use borrow.Author.Needs.{needs}
 use Rattle.taskfile.specs.declared.Outcome.{Outcome}
 use Rattle.taskfile.specs.declared.Outcome.the-variants.{Read}
-use Rattle.taskfile.specs.Contents.{Reading, roomyFor}
-use Rattle.taskfile.specs.Laws.{Whole, whole, Roomy, roomy, read-long, read-fault, read-short, read-all}
+use Rattle.taskfile.specs.Contents.{FileReading, roomyFor}
+use Rattle.taskfile.specs.Laws.{Scanned, scanned-is, Roomy, roomy, read-long, read-fault, read-short, read-all}
 use Rattle.taskfile.proofs.read.Statement.{statement}
 use Rattle.taskfile.proofs.read.Tie as tie
 
 -- what a reading is gives the outcome and the three slices
-reads-as : {outcome : Outcome} {passages estimates calls : List ℕ} {r : Reading} → r ≡ record { outcome = outcome; passages = passages; estimates = estimates; calls = calls } → (outcome ≡ r .outcome) × ((passages ≡ r .passages) × ((estimates ≡ r .estimates) × (calls ≡ r .calls)))
-reads-as e = (sym (ap (λ (s : Reading). s .outcome) e), (sym (ap (λ (s : Reading). s .passages) e), (sym (ap (λ (s : Reading). s .estimates) e), sym (ap (λ (s : Reading). s .calls) e))))
+reads-as : {outcome : Outcome} {passages estimates calls : List ℕ} {r : FileReading} → r ≡ record { outcome = outcome; passages = passages; estimates = estimates; calls = calls } → (outcome ≡ r .outcome) × ((passages ≡ r .passages) × ((estimates ≡ r .estimates) × (calls ≡ r .calls)))
+reads-as e = (sym (ap (λ (s : FileReading). s .outcome) e), (sym (ap (λ (s : FileReading). s .passages) e), (sym (ap (λ (s : FileReading). s .estimates) e), sym (ap (λ (s : FileReading). s .calls) e))))
 
 -- past the second test the counts fill the file
-found : (c : tie.Else2) → Whole (now (c .before .before .before .before .before .before .before .before .args .file)) (c .before .before .scan .result)
-found c = whole _ _ (c .before .before .scan .ensures) (c .if2 .left)
+found : (c : tie.Else2) → Scanned (now (c .before .before .before .before .before .before .before .before .args .file)) (c .before .before .scan .result)
+found c = scanned-is _ _ (c .before .before .scan .ensures) (c .if2 .left)
 
 -- past the third the slices are roomy
 module _ (c : tie.Else3) where

@@ -1,4 +1,4 @@
--- The loop's invariant: `s` is the `i`-th state back from the goal, and going back stopped at none before it.
+-- The loop's invariant: `i` states were met, and going back from `s`, in front of them, comes to the path.
 use mathlib.Core.Path.{_≡_, _∙_, sym}
 use mathlib.Core.Bool.{Bool, true, false}
 use Prim.Native.Nat.{_-_}

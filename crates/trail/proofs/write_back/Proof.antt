@@ -1,4 +1,4 @@
--- The loop's invariant: `s` is the `i`-th state back from the goal, and the `i` states nearer to the goal stand at the last of the first `count` places.
+-- The loop's invariant: the `i` states met stand at the last of the first `count` places, and the states back from `s`, in front of them, are all `count`.
 use Prim.Native.Nat.{_-_}
 use borrow.Author.Needs.{needs}
 use Rattle.trail.specs.Laws.{Written, written-zero, written-onward, written-more, written-end}

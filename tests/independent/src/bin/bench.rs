@@ -336,12 +336,9 @@ fn map_task(n: usize, passages: usize, k: usize) -> Task {
 fn opened_row(task: &Task) -> Vec<u32> {
     let mut row = vec![0; ROW];
     let head = &task.head;
-    let sizes = [head.n, head.k, head.start, head.goal];
-    for (place, size) in row.iter_mut().zip(sizes) {
-        *place = size as u32;
+    for (place, number) in row.iter_mut().zip(head.numbers()) {
+        *place = number as u32;
     }
-    row[4] = u32::from(head.pull);
-    row[5] = u32::from(head.excess);
     row[MARKS + head.start] = u32::from(OPEN);
     row[LABELS + 256..].fill(u32::from(NONE));
     row

@@ -11,15 +11,15 @@ use Rattle.desk.specs.declared.Answer.{Answer}
 use Rattle.trail.specs.Laws.{path-within}
 use Rattle.desk.specs.Machine.{trailOf}
 use Rattle.desk.specs.Fits.{fits}
-use Rattle.desk.specs.Path.{Reading}
+use Rattle.desk.specs.Path.{PathReading}
 use Rattle.desk.specs.Laws.{Fitting, fitting, inside, path-unfit, path-early, path-broken, path-short, path-read, path-way, path-written}
 use borrow.Author.Needs.{needs}
 use Rattle.desk.proofs.Machine.path.Statement.{statement}
 use Rattle.desk.proofs.Machine.path.Tie as tie
 
 -- what a reading is gives the answer and the buffer
-reads-as : {given : Answer} {buffer : List ℕ} {r : Reading} → r ≡ record { given = given; buffer = buffer } → (given ≡ r .given) × (buffer ≡ r .buffer)
-reads-as e = (sym (ap (λ (s : Reading). s .given) e), sym (ap (λ (s : Reading). s .buffer) e))
+reads-as : {given : Answer} {buffer : List ℕ} {r : PathReading} → r ≡ record { given = given; buffer = buffer } → (given ≡ r .given) × (buffer ≡ r .buffer)
+reads-as e = (sym (ap (λ (s : PathReading). s .given) e), sym (ap (λ (s : PathReading). s .buffer) e))
 
 -- past the first test the machine fits
 module _ (c : tie.Else1) where
@@ -114,7 +114,7 @@ returns-6 c =
     let d = l .before .before .before .before .before in
     let a = d .before .before .before .before .before .before .args in
     let e = reads-as (path-read _ _ _ _ _ (fit (d .before)) (d .if2 .left) _ (l .before .path-length .ensures) (l .if3 .left) (c .before .before .before .before .before .before .if5 .left)) in
-    (e .0, path-written (a .t1) (now (a .passages)) (now (a .buffer)) _ (a .at) _ (l .before .path-length .ensures) (c .before .before .write-back .ensures) ∙ e .1)
+    (e .0, path-written (a .t1) (now (a .passages)) (now (a .estimates)) (now (a .buffer)) (a .at) (fit (d .before)) (d .if2 .left) _ (l .before .path-length .ensures) (l .if3 .left) _ (c .before .before .write-back .ensures) ∙ e .1)
 
 cast-states : tie.Need-cast-states
 cast-states c =

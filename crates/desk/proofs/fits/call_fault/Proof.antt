@@ -1,7 +1,7 @@
 -- `desk::fits::call_fault` goes down the ladder of 8, 9 and 10.
 use mathlib.Core.Path.{_∙_, sym}
 use borrow.Author.Tests.{lt-ltb, le-ltb, eq-eqb, ne-eqb, not-true, not-false}
-use Rattle.desk.specs.Admission.{callFault}
+use Rattle.desk.specs.Laws.{callFault}
 use borrow.Author.Needs.{needs}
 use Rattle.desk.proofs.fits.call_fault.Statement.{statement}
 use Rattle.desk.proofs.fits.call_fault.Tie as tie

@@ -5,7 +5,8 @@ use native.Mathlib.Omega.{arith}
 use denote.Ref.{now}
 use lib.ListN.{length, set, length-set}
 use borrow.Author.Needs.{needs}
-use Rattle.deskc.specs.Laws.{Sized, changed-parts}
+use Rattle.desk.specs.Laws.{Sized}
+use Rattle.deskc.specs.Laws.{changed-parts}
 use Rattle.deskc.proofs.row.put_changing.Statement.{statement}
 use Rattle.deskc.proofs.row.put_changing.Tie as tie
 

@@ -1,4 +1,4 @@
--- All open cells are those before the last place.
+-- All open cells are those before the rows' end.
 use native.Mathlib.Omega.{arith}
 use borrow.Author.Needs.{needs}
 use Rattle.gridmap.specs.Map.{stateCount, stateOf}

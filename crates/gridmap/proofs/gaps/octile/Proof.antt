@@ -1,6 +1,5 @@
--- The larger is found as in the definition, and 1,414 × 65,791 is 93,028,474.
+-- The larger and the smaller are told by a test, and 1,414 × 65,791 is 93,028,474.
 use borrow.Author.Needs.{needs}
-use borrow.Author.Tests.{le-leb, lt-leb}
 use Rattle.gridmap.specs.Estimates.{octile}
 use Rattle.gridmap.proofs.gaps.octile.Statement.{statement}
 use Rattle.gridmap.proofs.gaps.octile.Tie as tie
@@ -16,7 +15,7 @@ add-result c = search needs
 
 returns : tie.Need-returns
 unfolding octile
-returns c = rw (le-leb _ _ (c .if1 .taken)) (search needs)
+returns c = search needs
 
 mul-result-3 : tie.Need-mul-result-3
 mul-result-3 c = search needs
@@ -29,7 +28,7 @@ add-result-2 c = search needs
 
 returns-2 : tie.Need-returns-2
 unfolding octile
-returns-2 c = rw (lt-leb _ _ (c .if1 .left)) (search needs)
+returns-2 c = search needs
 
 pub octile-spec : {M : Type 1} → statement M
 octile-spec =

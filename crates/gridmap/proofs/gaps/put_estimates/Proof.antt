@@ -6,7 +6,8 @@ use lib.ListN.{length, getD}
 use borrow.Author.Needs.{needs}
 use Rattle.laws.specs.Table.{square-some, square-row, square-column}
 use Rattle.laws.specs.Fill.{Filled, filled-zero, filled-more, filled-end}
-use Rattle.gridmap.specs.Estimates.{between, tableOf}
+use Rattle.gridmap.specs.Estimates.{between}
+use Rattle.gridmap.specs.Laws.{tableOf}
 use Rattle.gridmap.proofs.gaps.put_estimates.Statement.{statement}
 use Rattle.gridmap.proofs.gaps.put_estimates.Tie as tie
 

@@ -3,11 +3,12 @@ use mathlib.Core.Path.{_≡_, sym, _∙_}
 use mathlib.Core.Bool.{true}
 use borrow.Author.Needs.{needs}
 use borrow.Author.Tests.{not-true, not-false}
-use Rattle.gridmap.specs.Text.{isWord, isSize, heightAt, widthAt, word-height, headRight}
+use Rattle.gridmap.specs.Text.{isWord, isSize, heightAt, widthAt, headRight}
+use Rattle.laws.specs.Ascii.{ascii}
 use Rattle.gridmap.proofs.header.head_right.Statement.{statement}
 use Rattle.gridmap.proofs.header.head_right.Tie as tie
 
-word : (c : tie.Else1) → isWord (c .before .before .before .before .args .text .now) 0 word-height ≡ true
+word : (c : tie.Else1) → isWord (c .before .before .before .before .args .text .now) 0 (ascii "type octile\nheight ") ≡ true
 word c = sym (c .before .is-word .ensures) ∙ not-false (c .before .is-word .result) (c .if1 .left)
 
 height : (c : tie.Else2) → isSize (c .before .before .before .before .before .before .args .text .now) heightAt ≡ true

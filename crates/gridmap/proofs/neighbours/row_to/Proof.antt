@@ -17,22 +17,22 @@ sub-result-2 c = search needs
 
 returns-2 : tie.Need-returns-2
 unfolding rowTo
-returns-2 c = rw (ne-eqb _ 7 (c .before .if1 .left), le-leb _ _ (c .if2 .taken))
+returns-2 c = rw (ne-eqb _ 7 (c .before .if1 .left), le-leb (c .before .before .args .d) 1 (c .if2 .taken))
 
 add-result : tie.Need-add-result
 add-result c = search needs
 
 returns-3 : tie.Need-returns-3
 unfolding rowTo
-returns-3 c = rw (ne-eqb _ 7 (c .before .before .before .if1 .left), lt-leb _ _ (c .before .before .if2 .left), le-leb _ _ (c .before .if3 .taken), le-leb _ _ (c .if4 .taken))
+returns-3 c = rw (ne-eqb _ 7 (c .before .before .before .if1 .left), lt-leb _ 1 (c .before .before .if2 .left), le-leb 3 _ (c .before .if3 .taken), le-leb _ 5 (c .if4 .taken))
 
 returns-4 : tie.Need-returns-4
 unfolding rowTo
-returns-4 c = rw (ne-eqb _ 7 (c .before .before .before .if1 .left), lt-leb _ _ (c .before .before .if2 .left), le-leb _ _ (c .before .if3 .taken), lt-leb _ _ (c .if4 .left))
+returns-4 c = rw (ne-eqb _ 7 (c .before .before .before .if1 .left), lt-leb _ 1 (c .before .before .if2 .left), le-leb 3 _ (c .before .if3 .taken), lt-leb _ 5 (c .if4 .left))
 
 returns-5 : tie.Need-returns-5
 unfolding rowTo
-returns-5 c = rw (ne-eqb _ 7 (c .before .before .if1 .left), lt-leb _ _ (c .before .if2 .left), lt-leb _ _ (c .if3 .left))
+returns-5 c = rw (ne-eqb _ 7 (c .before .before .if1 .left), lt-leb _ 1 (c .before .if2 .left), lt-leb 3 _ (c .if3 .left))
 
 pub row-to-spec : {M : Type 1} → statement M
 row-to-spec =

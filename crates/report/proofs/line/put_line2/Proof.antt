@@ -1,7 +1,7 @@
 -- The word, the two numbers and the line's end are pieces one after another, and a number takes 20 places at most.
 use native.Mathlib.Omega.{arith}
 use borrow.Author.Needs.{needs}
-use Rattle.report.specs.LineLaws.{decimal-room, put-line2}
+use Rattle.report.specs.LineLaws.{digits-room, put-line2}
 use Rattle.report.proofs.line.put_line2.Statement.{statement}
 use Rattle.report.proofs.line.put_line2.Tie as tie
 
@@ -15,13 +15,13 @@ put-decimal-requires : tie.Need-put-decimal-requires
 put-decimal-requires c κs = search needs
 
 put-byte-requires-2 : tie.Need-put-byte-requires-2
-put-byte-requires-2 c κs = omega (arith, decimal-room _ (c .before .before .before .put-decimal .ensures))
+put-byte-requires-2 c κs = omega (arith, digits-room 20 _ (c .before .before .before .put-decimal .ensures))
 
 put-decimal-requires-2 : tie.Need-put-decimal-requires-2
-put-decimal-requires-2 c κs = omega (arith, decimal-room _ (c .before .before .before .before .before .before .before .put-decimal .ensures))
+put-decimal-requires-2 c κs = omega (arith, digits-room 20 _ (c .before .before .before .before .before .before .before .put-decimal .ensures))
 
 put-byte-requires-3 : tie.Need-put-byte-requires-3
-put-byte-requires-3 c κs = omega (arith, decimal-room _ (c .before .before .before .before .before .before .before .before .before .before .before .put-decimal .ensures), decimal-room _ (c .before .before .before .put-decimal2 .ensures))
+put-byte-requires-3 c κs = omega (arith, digits-room 20 _ (c .before .before .before .before .before .before .before .before .before .before .before .put-decimal .ensures), digits-room 20 _ (c .before .before .before .put-decimal2 .ensures))
 
 same-length : tie.Need-same-length
 same-length c = search needs

@@ -1,8 +1,10 @@
 -- The word, the states and the line's end are pieces one after another, and every other reply leaves the buffer as it was.
 use mathlib.Core.Path.{subst}
 use mathlib.Core.List.{[], _∷_}
+use native.Mathlib.Omega.{arith}
 use borrow.Author.Needs.{needs}
-use Rattle.report.specs.Laws.{Drawn, other-case}
+use Rattle.report.specs.Laws.{PathFits, other-case}
+use Rattle.report.specs.LineLaws.{spaced-end}
 use Rattle.laws.specs.Put.{put-three, put-none}
 use Rattle.report.proofs.line.put_read.Statement.{statement}
 use Rattle.report.proofs.line.put_read.Tie as tie
@@ -22,7 +24,7 @@ cast-put-states c = search needs
 put-states-requires : tie.Need-put-states-requires
 put-states-requires c κs =
     let r = c .before .before .before .before .before .before .before in
-    (subst Drawn (r .reply .given .1) (r .before .before .before .pre .0), search needs)
+    (search needs, (subst PathFits (r .reply .given .1) (r .before .before .before .pre .1 .0), search needs))
 
 put-byte-requires : tie.Need-put-byte-requires
 put-byte-requires c κs = search needs
@@ -35,7 +37,9 @@ returns c =
     let b = c .before .before in
     let s = b .before .before .before .before in
     let w = s .before .before .before .before in
-    rw (w .before .before .before .before .reply .given .1) (put-three _ _ _ _ _ _ _ _ _ _ _ (w .put-word .ensures) (s .put-states .ensures .0) (b .put-byte .ensures) (search needs), search needs)
+    let r = w .before .before .before .before in
+    let room = r .before .before .before .pre .1 .1 in
+    rw (r .reply .given .1, ← spaced-end) (put-three _ _ _ _ _ _ _ _ _ _ _ (w .put-word .ensures) (s .put-states .ensures .0) (b .put-byte .ensures) (omega (arith, w .put-word .ensures .next, s .put-states .ensures, room)), search needs)
 
 returns-2 : tie.Need-returns-2
 returns-2 c =

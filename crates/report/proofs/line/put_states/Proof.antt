@@ -40,13 +40,13 @@ loop-again c =
     let d = c .before .before in
     let b = d .before .before .before .before .before .before in
     let l = b .before .before .before in
-    (search needs, listed-more _ _ _ _ _ _ _ _ _ _ (l .loop .i) (l .loop .inv .1) (b .put-byte .ensures) (d .put-decimal .ensures) (d .before .wide .ensures) (search needs) (l .before .before .pre .1))
+    (search needs, listed-more _ _ _ _ _ _ _ _ _ _ (l .loop .i) (l .loop .inv .1) (b .put-byte .ensures) (d .put-decimal .ensures) (d .before .wide .ensures) (l .before .before .pre .0) (search needs) (l .before .before .pre .1 .1))
 
 same-length : tie.Need-same-length Inv-loop μ-loop
 same-length c = search needs
 
 returns : tie.Need-returns Inv-loop μ-loop
-returns c = let l = c .before .loop in listed-end _ _ _ _ _ (l .i) _ (l .inv .1) (l .inv .0) (c .loop-test .left) (c .before .before .before .pre .0)
+returns c = let l = c .before .loop in listed-end _ _ _ _ _ (l .i) _ (l .inv .1) (l .inv .0) (c .loop-test .left) (c .before .before .before .pre .1 .0)
 
 pub put-states-spec : {M : Type 1} → statement M
 put-states-spec =

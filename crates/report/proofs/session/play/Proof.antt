@@ -1,4 +1,4 @@
--- `play`: the loop's invariant is that the machine and the text are the session's after i events, with 50 places left for each further event and a path line's places while none was printed.
+-- `play`: the loop's invariant is that the machine and the text are the session's after i events, with 50 places left for each further event and a path line's places while the search goes on.
 use Prim.Native.Nat.{_≤_, _-_}
 use native.Mathlib.Omega.{arith}
 use lib.ListN.{length}

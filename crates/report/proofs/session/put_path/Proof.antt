@@ -2,8 +2,8 @@
 use mathlib.Core.Path.{subst⁻¹}
 use borrow.Author.Needs.{needs}
 use Rattle.desk.specs.declared.Answer.{Answer}
-use Rattle.report.specs.Laws.{Drawn}
-use Rattle.report.specs.SessionLaws.{path-drawn}
+use Rattle.report.specs.Laws.{PathFits}
+use Rattle.report.specs.SessionLaws.{path-fits}
 use Rattle.report.proofs.session.put_path.Statement.{statement}
 use Rattle.report.proofs.session.put_path.Tie as tie
 
@@ -14,7 +14,8 @@ path-requires : tie.Need-path-requires
 path-requires c κs = search needs
 
 put-read-requires : tie.Need-put-read-requires
-put-read-requires c κs = (subst⁻¹ (λ (a : Answer). Drawn (a .reply)) (c .before .before .before .path .ensures .0) (path-drawn _ _ _), search needs)
+put-read-requires c κs =
+    (c .before .before .before .path .kept .1 .1 .1 .0, (subst⁻¹ (λ (a : Answer). PathFits (a .reply)) (c .before .before .before .path .ensures .0) (path-fits _ _ _), search needs))
 
 same-length : tie.Need-same-length
 same-length c = search needs

@@ -1,9 +1,7 @@
--- `fill::contents` reads the six numbers of the head where the definition does, all inside the first 16 bytes.
+-- `fill::contents` reads five of the head's six numbers where the definition does, all inside the first 16 bytes; n it has from the scan.
 use borrow.Author.Needs.{needs}
 use Rattle.taskfile.proofs.fill.contents.Statement.{statement}
 use Rattle.taskfile.proofs.fill.contents.Tie as tie
-
--- `fill::contents` reads five numbers of the head where the definition does, all inside the first 16 bytes.
 
 word-requires : tie.Need-word-requires
 word-requires c κs = search needs

@@ -1,13 +1,14 @@
 -- `fill::put_calls` fills the slice from its front: before turn i the first i places hold the first i calls.
-use Prim.Native.Nat.{_-_, _≤_}
+use Prim.Native.Nat.{_+_, _*_, _-_, _≤_}
 use Rattle.laws.specs.Fill.{Filled, filled-zero, filled-front, filled-end}
-use Rattle.taskfile.specs.Contents.{callOf, callPlace, callsOf}
+use Rattle.taskfile.specs.Contents.{callPlace, fileCalls}
+use Rattle.taskfile.specs.Bytes.{byte}
 use borrow.Author.Needs.{needs}
 use Rattle.taskfile.proofs.fill.put_calls.Statement.{statement}
 use Rattle.taskfile.proofs.fill.put_calls.Tie as tie
 
 abbrev Inv-loop : tie.InvT-loop
-Inv-loop file passages n count calls₀ from i₀ calls i = (i ≤ count) × Filled (λ i. callOf file (callPlace passages n i)) 0 calls₀ calls i
+Inv-loop file passages n count calls₀ from i₀ calls i = (i ≤ count) × Filled (λ i. 65536 * byte file (callPlace passages n i + 4) + byte file (callPlace passages n i + 5)) 0 calls₀ calls i
 
 abbrev μ-loop : tie.MeasureT-loop
 μ-loop file passages n count calls₀ from i₀ calls i = count - i
@@ -81,7 +82,7 @@ same-length : tie.Need-same-length Inv-loop μ-loop
 same-length c = search needs
 
 returns : tie.Need-returns Inv-loop μ-loop
-unfolding callsOf
+unfolding fileCalls
 returns c = let l = c .before .loop in filled-end _ _ _ _ _ (l .i) (l .inv .1) (l .inv .0) (c .loop-test .left)
 
 pub put-calls-spec : {M : Type 1} → statement M

@@ -1,16 +1,14 @@
 -- `fill::put_passages` stores three numbers a turn: before turn i the passages before i stand at the front of the slice.
 use Prim.Native.Nat.{_-_, _≤_}
 use lib.ListN.{length-set}
-use Rattle.taskfile.specs.FillLaws.{Written, written-end, passages-zero, passages-more}
-use Rattle.taskfile.specs.Contents.{passagesOf}
+use Rattle.taskfile.specs.FillLaws.{passageIn, Stacked, stacked-end, passages-zero, passages-more}
+use Rattle.taskfile.specs.Contents.{filePassages}
 use borrow.Author.Needs.{needs}
 use Rattle.taskfile.proofs.fill.put_passages.Statement.{statement}
 use Rattle.taskfile.proofs.fill.put_passages.Tie as tie
 
--- `fill::put_passages` stores three numbers a turn: before turn i the passages before i stand at the front of the slice.
-
 abbrev Inv-loop : tie.InvT-loop
-Inv-loop file count passages₀ i₀ passages i = (i ≤ count) × Written (passagesOf file i) passages₀ passages
+Inv-loop file count passages₀ i₀ passages i = (i ≤ count) × Stacked (passageIn file) 3 passages₀ passages i
 
 abbrev μ-loop : tie.MeasureT-loop
 μ-loop file count passages₀ i₀ passages i = count - i
@@ -96,7 +94,8 @@ same-length : tie.Need-same-length Inv-loop μ-loop
 same-length c = search needs
 
 returns : tie.Need-returns Inv-loop μ-loop
-returns c = let l = c .before .loop in written-end (passagesOf _) _ _ _ (l .i) (l .inv .1) (l .inv .0) (c .loop-test .left)
+unfolding filePassages passageIn
+returns c = let l = c .before .loop in stacked-end _ _ _ _ (l .i) _ (l .inv .1) (l .inv .0) (c .loop-test .left)
 
 pub put-passages-spec : {M : Type 1} → statement M
 put-passages-spec =

@@ -6,8 +6,6 @@ use borrow.Author.Needs.{needs}
 use Rattle.taskfile.proofs.fill.put_row.Statement.{statement}
 use Rattle.taskfile.proofs.fill.put_row.Tie as tie
 
--- `fill::put_row` fills n places from `to` on: before turn c the first c of them hold the row's first c estimates.
-
 abbrev Inv-loop : tie.InvT-loop
 Inv-loop file at n estimates₀ to c₀ estimates c = (c ≤ n) × Filled (λ c. long file (at + 6 + 4 * c)) to estimates₀ estimates c
 

@@ -1,16 +1,14 @@
 -- `fill::put_rows` writes a row a turn, each behind the one before: before turn r the first r rows stand at the front of the slice.
 use Prim.Native.Nat.{ℕ, _+_, _*_, _-_, _≤_}
 use native.Mathlib.Omega.{arith}
-use Rattle.taskfile.specs.Contents.{estimatesOf}
-use Rattle.taskfile.specs.FillLaws.{Written, written-end, estimates-zero, estimates-more, part-inside}
+use Rattle.taskfile.specs.Contents.{fileEstimates}
+use Rattle.taskfile.specs.FillLaws.{rowIn, Stacked, stacked-end, rows-zero, rows-more, part-inside}
 use borrow.Author.Needs.{needs}
 use Rattle.taskfile.proofs.fill.put_rows.Statement.{statement}
 use Rattle.taskfile.proofs.fill.put_rows.Tie as tie
 
--- `fill::put_rows` writes a row a turn, each behind the one before: before turn r the first r rows stand at the front of the slice.
-
 abbrev Inv-loop : tie.InvT-loop
-Inv-loop file passages n estimates₀ r₀ estimates r = (r ≤ n) × Written (estimatesOf file passages n r) estimates₀ estimates
+Inv-loop file passages n estimates₀ r₀ estimates r = (r ≤ n) × Stacked (rowIn file passages n) n estimates₀ estimates r
 
 abbrev μ-loop : tie.MeasureT-loop
 μ-loop file passages n estimates₀ r₀ estimates r = n - r
@@ -20,7 +18,7 @@ inside : (c : tie.In-loop Inv-loop μ-loop) (k : ℕ) → let n = c .before .bef
 inside c k = part-inside (c .before .loop .r) (c .before .before .before .before .args .n) k (c .loop-test .taken)
 
 loop-holds : tie.Need-loop-holds Inv-loop μ-loop
-loop-holds c = (search needs, estimates-zero _ _ _ _)
+loop-holds c = (search needs, rows-zero _ _ _ _)
 
 mul-at : tie.Need-mul-at Inv-loop μ-loop
 mul-at c = search needs
@@ -58,13 +56,14 @@ loop-again : tie.Need-loop-again Inv-loop μ-loop
 loop-again c =
     let l = c .before .before .before .before .before .loop in
     let n = c .before .before .before .before .before .before .before .before .args .n in
-    (search needs, estimates-more _ _ _ _ _ (l .r) (l .inv .1) (omega (arith, inside (c .before .before .before .before) n)) _ (c .before .before .put-row .ensures))
+    (search needs, rows-more _ _ _ _ _ _ (l .r) (l .inv .1) (omega (arith, inside (c .before .before .before .before) n)) (c .before .before .put-row .ensures))
 
 same-length : tie.Need-same-length Inv-loop μ-loop
 same-length c = search needs
 
 returns : tie.Need-returns Inv-loop μ-loop
-returns c = let l = c .before .loop in written-end (estimatesOf _ _ _) _ _ _ (l .r) (l .inv .1) (l .inv .0) (c .loop-test .left)
+unfolding fileEstimates rowIn
+returns c = let l = c .before .loop in stacked-end _ _ _ _ (l .r) _ (l .inv .1) (l .inv .0) (c .loop-test .left)
 
 pub put-rows-spec : {M : Type 1} → statement M
 put-rows-spec =

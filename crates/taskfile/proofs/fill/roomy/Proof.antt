@@ -8,8 +8,6 @@ use borrow.Author.Needs.{needs}
 use Rattle.taskfile.proofs.fill.roomy.Statement.{statement}
 use Rattle.taskfile.proofs.fill.roomy.Tie as tie
 
--- `fill::roomy` makes the definition's three comparisons, in its order; with at most 64 states the square fits.
-
 mul-if1 : tie.Need-mul-if1
 mul-if1 c = search needs
 

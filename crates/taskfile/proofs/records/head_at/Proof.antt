@@ -6,12 +6,12 @@ use lib.Dec.{eqb}
 use borrow.Author.Tests.{eq-eqb, ne-eqb, le-leb, lt-leb}
 use borrow.Author.Needs.{needs}
 use Rattle.laws.specs.Truth.{and-both}
-use Rattle.taskfile.specs.Scan.{payload, headAt}
+use Rattle.taskfile.specs.Scan.{payloadLength, headAt}
 use Rattle.taskfile.proofs.records.head_at.Statement.{statement}
 use Rattle.taskfile.proofs.records.head_at.Tie as tie
 
 -- past the second test there was no head, and the record has a head's length
-first : (c : tie.Else2) → (eqb (c .before .before .before .before .before .args .s .n) 0 && eqb (payload (now (c .before .before .before .before .before .args .file)) (c .before .before .before .before .before .args .s .at)) 12) ≡ true
+first : (c : tie.Else2) → (eqb (c .before .before .before .before .before .args .s .n) 0 && eqb (payloadLength (now (c .before .before .before .before .before .args .file)) (c .before .before .before .before .before .args .s .at)) 12) ≡ true
 first c = and-both (eq-eqb _ 0 (c .before .before .if1 .left)) (eq-eqb _ 12 (sym (c .before .word .ensures .0) ∙ c .if2 .left))
 
 stopped-requires : tie.Need-stopped-requires

@@ -6,12 +6,12 @@ use lib.Dec.{leb, eqb}
 use borrow.Author.Tests.{eq-eqb, ne-eqb, lt-ltb, le-ltb, le-leb, lt-leb}
 use borrow.Author.Needs.{needs}
 use Rattle.laws.specs.Truth.{and-both}
-use Rattle.taskfile.specs.Scan.{payload, passageAt}
+use Rattle.taskfile.specs.Scan.{payloadLength, passageAt}
 use Rattle.taskfile.proofs.records.passage_at.Statement.{statement}
 use Rattle.taskfile.proofs.records.passage_at.Tie as tie
 
 -- past the third test there was a head and no row, and the record has a passage's length
-between : (c : tie.Else3) → (leb 1 (c .before .before .before .before .before .before .before .args .s .n) && (eqb (c .before .before .before .before .before .before .before .args .s .rows) 0 && eqb (payload (now (c .before .before .before .before .before .before .before .args .file)) (c .before .before .before .before .before .before .before .args .s .at)) 8)) ≡ true
+between : (c : tie.Else3) → (leb 1 (c .before .before .before .before .before .before .before .args .s .n) && (eqb (c .before .before .before .before .before .before .before .args .s .rows) 0 && eqb (payloadLength (now (c .before .before .before .before .before .before .before .args .file)) (c .before .before .before .before .before .before .before .args .s .at)) 8)) ≡ true
 between c =
     and-both (le-leb 1 _ (c .before .before .before .before .if1 .left)) (and-both (eq-eqb _ 0 (c .before .before .if2 .left)) (eq-eqb _ 8 (sym (c .before .word .ensures .0) ∙ c .if3 .left)))
 

@@ -1,0 +1,2 @@
+-- Beside the proofs of the functions: that each contract determines its answer.
+pub mod Determined

@@ -1,0 +1,65 @@
+-- Each contract of this crate determines its answer. What that is, and how a line here is read, says `crates/determined/specs/Fixes.antt`.
+-- Assumes nothing.
+use Rattle.determined.specs.Fixes.{Fixes, Answers, same}
+use Rattle.desk.proofs as f
+
+-- opening.rt
+pub blank : Answers f.opening.blank.ended f.opening.blank.Reads.Asked f.opening.blank.Reads.Learnt
+blank = (λ κs a. tt, λ κs a x y p q i. (same p q i, x .1))
+
+pub opening : Answers f.Machine.opening.ended f.Machine.opening.Reads.Asked f.Machine.opening.Reads.Learnt
+opening = (λ κs a. tt, λ κs a x y p q i. (same p q i, x .1))
+
+-- take.rt
+pub act : Fixes f.take.act.ended f.take.act.Reads.Learnt
+act κs a x y p q i = (same p q i, x .1)
+
+pub take-step : Fixes f.take.take_step.ended f.take.take_step.Reads.Learnt
+take-step κs a x y p q i = (same p q i, x .1)
+
+pub take : Answers f.Machine.take.ended f.Machine.take.Reads.Asked f.Machine.take.Reads.Learnt
+take = (λ κs a. tt, λ κs a x y p q i. (same p q i, x .1))
+
+-- bring.rt
+pub sweep : Fixes f.bring.sweep.ended f.bring.sweep.Reads.Learnt
+sweep κs a x y p q i = (same p q i, x .1)
+
+pub bring-step : Fixes f.bring.bring_step.ended f.bring.bring_step.Reads.Learnt
+bring-step κs a x y p q i = (same p q i, x .1)
+
+pub bring : Answers f.Machine.bring.ended f.Machine.bring.Reads.Asked f.Machine.bring.Reads.Learnt
+bring = (λ κs a. tt, λ κs a x y p q i. (same p q i, x .1))
+
+-- path.rt
+pub path : Answers f.Machine.path.ended f.Machine.path.Reads.Asked f.Machine.path.Reads.Learnt
+path = (λ κs a. tt, λ κs a x y p q i. (same (p .0) (q .0) i, (tt, (tt, (tt, (same (p .1) (q .1) i, (tt, tt)))))))
+
+-- mornings.rt
+pub called : Answers f.mornings.called.ended f.mornings.called.Reads.Asked f.mornings.called.Reads.Learnt
+called = (λ κs a. tt, λ κs a x y p q i. (same p q i, x .1))
+
+pub are-events : Answers f.mornings.are_events.ended f.mornings.are_events.Reads.Asked f.mornings.are_events.Reads.Learnt
+are-events = (λ κs a. tt, λ κs a x y p q i. (same p q i, x .1))
+
+pub morning-fault : Answers f.mornings.morning_fault.ended f.mornings.morning_fault.Reads.Asked f.mornings.morning_fault.Reads.Learnt
+morning-fault = (λ κs a. tt, λ κs a x y p q i. (same p q i, x .1))
+
+pub serve : Fixes f.mornings.serve.ended f.mornings.serve.Reads.Learnt
+serve κs a x y p q i = (same (p .0) (q .0) i, (tt, (tt, (tt, (tt, (same (p .1) (q .1) i, tt))))))
+
+pub morning : Answers f.Machine.morning.ended f.Machine.morning.Reads.Asked f.Machine.morning.Reads.Learnt
+morning = (λ κs a. tt, λ κs a x y p q i. (same (p .0) (q .0) i, (tt, (tt, (tt, (tt, (same (p .1) (q .1) i, tt)))))))
+
+-- coding.rt
+pub code : Answers f.coding.code.ended f.coding.code.Reads.Asked f.coding.code.Reads.Learnt
+code = (λ κs a. tt, λ κs a x y p q i. (same p q i, x .1))
+
+-- fits.rt
+pub refused : Answers f.fits.refused.ended f.fits.refused.Reads.Asked f.fits.refused.Reads.Learnt
+refused = (λ κs a. tt, λ κs a x y p q i. (same p q i, x .1))
+
+pub fits : Answers f.fits.fits.ended f.fits.fits.Reads.Asked f.fits.fits.Reads.Learnt
+fits = (λ κs a. tt, λ κs a x y p q i. (same p q i, x .1))
+
+pub call-fault : Answers f.fits.call_fault.ended f.fits.call_fault.Reads.Asked f.fits.call_fault.Reads.Learnt
+call-fault = (λ κs a. tt, λ κs a x y p q i. (same p q i, x .1))

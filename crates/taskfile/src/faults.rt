@@ -1,0 +1,11 @@
+// The numbers of a file's faults, each named once.
+pub const CUT_SHORT: u8 = 21;
+
+pub const OUT_OF_ORDER: u8 = 22;
+
+pub const TOO_LARGE: u8 = 23;
+
+pub const SHORT_SLICE: u8 = 27;
+
+// How a scan without fault ends.
+pub const ALL_READ: u8 = 1;

@@ -1,0 +1,302 @@
+/* The route desk called from C and C++: run A1 of the scope document, made singly and as a morning, with its path; the
+ * refusals that numbers, lengths and pointers of a caller lead to; and that a refused call writes nothing.
+ * Prints how many checks passed, or the first that did not. */
+#include <stdio.h>
+#include <stdlib.h>
+#include <string.h>
+
+#include "route_desk.h"
+
+static int checks;
+
+#define CHECK(fact) check((fact), #fact, __LINE__)
+
+static void check(int holds, const char *fact, int line) {
+    checks += 1;
+    if (!holds) {
+        fprintf(stderr, "interface: tests/c/calls.c, line %d: %s\n", line, fact);
+        exit(1);
+    }
+}
+
+static int is(uint64_t reply, unsigned kind, uint32_t value) {
+    return DESK_CASE(reply) == kind && DESK_VALUE(reply) == value;
+}
+
+static int refused(uint64_t reply, uint32_t number) { return is(reply, DESK_REFUSED, number); }
+
+/* ---- Task A ---- */
+
+static const uint32_t passages[18] = {0, 1, 2, 0, 2, 5, 1, 2, 1, 2, 3, 2, 1, 4, 9, 3, 4, 1};
+static const uint32_t estimates[25] = {0};
+
+static uint64_t open_a(size_t n, size_t goal, size_t w, size_t e, uint32_t *row, size_t row_len) {
+    return desk_open(n, 2, 0, goal, w, e, passages, 18, estimates, 25, row, row_len);
+}
+
+static uint64_t take_a(uint32_t *row, size_t row_len, size_t worker) {
+    return desk_take(row, row_len, passages, 18, estimates, 25, worker);
+}
+
+static uint64_t bring_a(uint32_t *row, size_t row_len, size_t worker) {
+    return desk_bring(row, row_len, passages, 18, estimates, 25, worker);
+}
+
+static uint64_t path_a(const uint32_t *row, size_t row_len, uint16_t *buffer, size_t buffer_len, size_t at) {
+    return desk_path(row, row_len, passages, 18, estimates, 25, buffer, buffer_len, at);
+}
+
+static uint64_t morning_a(uint32_t *row, size_t row_len, const uint32_t *events, size_t events_len, uint64_t *replies,
+                          size_t replies_len) {
+    return desk_morning(row, row_len, passages, 18, estimates, 25, events, events_len, replies, replies_len);
+}
+
+/* A row of numbers that are none of the desk's. */
+static void junk(uint32_t *row, size_t row_len) {
+    for (size_t i = 0; i < row_len; i++) {
+        row[i] = (uint32_t)(i + 1) * 2654435761u;
+    }
+}
+
+/* Numbers that are out of range wherever they are given, though what is left of some in fewer bits would do. */
+static const size_t wide[] = {65535, 65536, 65636, ((size_t)1 << 32) + 100, (size_t)1 << 32, (size_t)-1};
+enum { WIDE = sizeof wide / sizeof wide[0] };
+
+/* ---- Run A1 ---- */
+
+struct call {
+    int is_bring;
+    size_t worker;
+    unsigned kind;
+    uint32_t value;
+};
+
+static const struct call run_a1[] = {
+    {0, 0, DESK_TOOK, 0}, {0, 1, DESK_WAIT, 0}, {1, 0, DESK_BROUGHT, 2}, {0, 0, DESK_TOOK, 1}, {0, 1, DESK_WAIT, 1},
+    {1, 0, DESK_BROUGHT, 2}, {0, 1, DESK_TOOK, 2}, {0, 0, DESK_WAIT, 2}, {1, 1, DESK_BROUGHT, 1}, {0, 0, DESK_TOOK, 3},
+    {0, 1, DESK_WAIT, 3}, {1, 0, DESK_BROUGHT, 1}, {0, 1, DESK_FOUND, 6}};
+enum { CALLS = sizeof run_a1 / sizeof run_a1[0] };
+
+/* Each call on two rows in turn, which know nothing of each other. */
+static void run_singly(uint32_t *row) {
+    uint32_t other[DESK_ROW];
+    CHECK(is(open_a(5, 4, 100, 100, row, DESK_ROW), DESK_OPENED, 0));
+    CHECK(is(open_a(5, 4, 100, 100, other, DESK_ROW), DESK_OPENED, 0));
+    for (int i = 0; i < CALLS; i++) {
+        uint32_t *const rows[2] = {row, other};
+        for (int r = 0; r < 2; r++) {
+            uint64_t reply = run_a1[i].is_bring ? bring_a(rows[r], DESK_ROW, run_a1[i].worker)
+                                                : take_a(rows[r], DESK_ROW, run_a1[i].worker);
+            CHECK(is(reply, run_a1[i].kind, run_a1[i].value));
+        }
+    }
+    CHECK(memcmp(row, other, sizeof other) == 0);
+}
+
+static void run_as_a_morning(const uint32_t *singly) {
+    uint32_t row[DESK_ROW], events[CALLS];
+    uint64_t replies[CALLS + 1];
+    replies[CALLS] = 77;
+    CHECK(is(open_a(5, 4, 100, 100, row, DESK_ROW), DESK_OPENED, 0));
+    for (int i = 0; i < CALLS; i++) {
+        events[i] = run_a1[i].is_bring ? DESK_BRING_EVENT(run_a1[i].worker) : DESK_TAKE_EVENT(run_a1[i].worker);
+    }
+    CHECK(is(morning_a(row, DESK_ROW, events, CALLS, replies, CALLS + 1), DESK_DONE, 0));
+    for (int i = 0; i < CALLS; i++) {
+        CHECK(is(replies[i], run_a1[i].kind, run_a1[i].value));
+    }
+    CHECK(replies[CALLS] == 77);
+    CHECK(memcmp(row, singly, sizeof row) == 0);
+}
+
+static void read_paths(const uint32_t *found) {
+    uint16_t buffer[6] = {7, 7, 7, 7, 7, 7};
+    static const uint16_t untouched[6] = {7, 7, 7, 7, 7, 7}, written[6] = {7, 0, 1, 2, 3, 4};
+    CHECK(refused(path_a(found, DESK_ROW, buffer, 6, 2), 15));
+    for (int i = 0; i < WIDE; i++) {
+        CHECK(refused(path_a(found, DESK_ROW, buffer, 6, wide[i]), 15));
+    }
+    CHECK(refused(path_a(found, DESK_ROW, NULL, 0, 0), 15));
+    CHECK(memcmp(buffer, untouched, sizeof buffer) == 0);
+    CHECK(is(path_a(found, DESK_ROW, buffer, 6, 1), DESK_READ, 5));
+    CHECK(memcmp(buffer, written, sizeof buffer) == 0);
+}
+
+/* ---- Refusals ---- */
+
+static int is_blank(const uint32_t *row) {
+    for (int i = 0; i < DESK_ROW; i++) {
+        if (row[i] != 0) {
+            return 0;
+        }
+    }
+    return 1;
+}
+
+/* A refused opening hands back no machine: all numbers are 0. No weight is cut to a smaller one. */
+static void refuse_openings(void) {
+    uint32_t row[DESK_ROW];
+    for (int i = 0; i < WIDE; i++) {
+        junk(row, DESK_ROW);
+        CHECK(refused(open_a(5, 4, wide[i], 100, row, DESK_ROW), 3) && is_blank(row));
+        junk(row, DESK_ROW);
+        CHECK(refused(open_a(5, 4, 100, wide[i], row, DESK_ROW), 3) && is_blank(row));
+        CHECK(refused(open_a(5, 4, wide[i], wide[i], row, DESK_ROW), 3) && is_blank(row));
+        CHECK(refused(open_a(wide[i], 4, wide[i], 100, row, DESK_ROW), 1) && is_blank(row));
+        CHECK(refused(open_a(5, wide[i], wide[i], 100, row, DESK_ROW), 2) && is_blank(row));
+    }
+    CHECK(refused(take_a(row, DESK_ROW, 0), 8) && is_blank(row));
+}
+
+/* Every call refuses a row of another length, and leaves it. */
+static void refuse_lengths(void) {
+    static const size_t lengths[] = {0, 1, DESK_ROW - 1, DESK_ROW + 1, 2 * DESK_ROW};
+    static const uint32_t events[1] = {0};
+    uint32_t row[2 * DESK_ROW], before[2 * DESK_ROW];
+    uint16_t buffer[5] = {7, 7, 7, 7, 7};
+    uint64_t replies[1] = {77};
+    junk(row, 2 * DESK_ROW);
+    memcpy(before, row, sizeof row);
+    for (int i = 0; i < 5; i++) {
+        uint32_t *lent = lengths[i] == 0 ? NULL : row;
+        CHECK(refused(open_a(5, 4, 100, 100, lent, lengths[i]), 8));
+        CHECK(refused(open_a(0, 4, 100, 100, lent, lengths[i]), 8));
+        CHECK(refused(take_a(lent, lengths[i], 0), 8));
+        CHECK(refused(bring_a(lent, lengths[i], 0), 8));
+        CHECK(refused(path_a(lent, lengths[i], buffer, 5, 0), 8));
+        CHECK(refused(morning_a(lent, lengths[i], events, 1, replies, 1), 8));
+    }
+    CHECK(memcmp(row, before, sizeof row) == 0);
+    CHECK(buffer[0] == 7 && buffer[4] == 7 && replies[0] == 77);
+}
+
+/* Numbers that are too large for their fields, though what is left of them in fewer bits would do. */
+static void refuse_fields(void) {
+    static const struct {
+        int place;
+        uint32_t added;
+    } wider[] = {{4, 65536},   {5, 65536},   {6, 256},     {7, 256},    {262, 256},
+                 {519, 65536}, {774, 65536}, {775, 65536}, {806, 65536}};
+    uint32_t row[DESK_ROW], before[DESK_ROW];
+    uint16_t buffer[5] = {7, 7, 7, 7, 7};
+    for (int i = 0; i < 9; i++) {
+        CHECK(is(open_a(5, 4, 100, 100, row, DESK_ROW), DESK_OPENED, 0));
+        row[wider[i].place] += wider[i].added;
+        memcpy(before, row, sizeof row);
+        CHECK(refused(take_a(row, DESK_ROW, 0), 8));
+        CHECK(refused(bring_a(row, DESK_ROW, 0), 8));
+        CHECK(refused(path_a(row, DESK_ROW, buffer, 5, 0), 8));
+        CHECK(memcmp(row, before, sizeof row) == 0 && buffer[0] == 7);
+    }
+}
+
+static void refuse_calls(void) {
+    uint32_t row[DESK_ROW], before[DESK_ROW];
+    uint16_t buffer[5] = {7, 7, 7, 7, 7};
+    CHECK(is(open_a(5, 4, 100, 100, row, DESK_ROW), DESK_OPENED, 0));
+    memcpy(before, row, sizeof row);
+    CHECK(refused(bring_a(row, DESK_ROW, 0), 11));
+    CHECK(refused(take_a(row, DESK_ROW, 2), 9));
+    for (int i = 0; i < WIDE; i++) {
+        CHECK(refused(take_a(row, DESK_ROW, wide[i]), 9));
+        CHECK(refused(bring_a(row, DESK_ROW, wide[i]), 9));
+    }
+    CHECK(refused(path_a(row, DESK_ROW, buffer, 5, 0), 13));
+    CHECK(memcmp(row, before, sizeof row) == 0);
+    CHECK(buffer[0] == 7 && buffer[4] == 7);
+}
+
+static void refuse_mornings(void) {
+    static const uint32_t events[3] = {0, 131072, 65536};
+    uint32_t row[DESK_ROW], before[DESK_ROW];
+    uint64_t replies[3] = {77, 77, 77};
+    CHECK(is(open_a(5, 4, 100, 100, row, DESK_ROW), DESK_OPENED, 0));
+    memcpy(before, row, sizeof row);
+    CHECK(refused(morning_a(row, DESK_ROW, events, 3, replies, 2), 16));
+    CHECK(refused(morning_a(row, DESK_ROW, events, 1, NULL, 0), 16));
+    CHECK(refused(morning_a(row, DESK_ROW, events, 3, replies, 3), 18));
+    CHECK(is(morning_a(row, DESK_ROW, NULL, 0, NULL, 0), DESK_DONE, 0));
+    CHECK(memcmp(row, before, sizeof row) == 0);
+    CHECK(replies[0] == 77 && replies[1] == 77 && replies[2] == 77);
+    /* a worker too large for an event is refused as in a single call, and is no other event */
+    for (int i = 0; i < WIDE; i++) {
+        const uint32_t by_none[2] = {DESK_TAKE_EVENT(wide[i]), DESK_BRING_EVENT(wide[i])};
+        CHECK(is(morning_a(row, DESK_ROW, by_none, 2, replies, 2), DESK_DONE, 0));
+        CHECK(refused(replies[0], 9) && refused(replies[1], 9));
+    }
+    CHECK(DESK_TAKE_EVENT(0) == 0 && DESK_BRING_EVENT(31) == 65567);
+    CHECK(DESK_TAKE_EVENT(-1) == 65535 && DESK_BRING_EVENT(-1) == 131071);
+    CHECK(memcmp(row, before, sizeof row) == 0);
+}
+
+/* ---- Pointers that are NULL where the length is 0 ---- */
+
+static void lend_nothing(void) {
+    uint32_t row[DESK_ROW];
+    uint16_t buffer[1] = {7};
+    CHECK(is(desk_open(1, 1, 0, 0, 100, 100, NULL, 0, estimates, 1, row, DESK_ROW), DESK_OPENED, 0));
+    CHECK(is(desk_take(row, DESK_ROW, NULL, 0, estimates, 1, 0), DESK_FOUND, 0));
+    CHECK(is(desk_path(row, DESK_ROW, NULL, 0, estimates, 1, buffer, 1, 0), DESK_READ, 1) && buffer[0] == 0);
+    CHECK(refused(desk_open(1, 1, 0, 0, 100, 100, NULL, 0, NULL, 0, row, DESK_ROW), 1));
+    CHECK(is(desk_open(2, 1, 0, 1, 100, 100, NULL, 0, estimates, 4, row, DESK_ROW), DESK_OPENED, 0));
+    CHECK(is(desk_take(row, DESK_ROW, NULL, 0, estimates, 4, 0), DESK_TOOK, 0));
+    CHECK(is(desk_bring(row, DESK_ROW, NULL, 0, estimates, 4, 0), DESK_BROUGHT, 0));
+    CHECK(is(desk_take(row, DESK_ROW, NULL, 0, estimates, 4, 0), DESK_NOPATH, 0));
+}
+
+/* ---- Maps and printing ---- */
+
+static int is_map(uint64_t reply, uint32_t cells, uint32_t links, uint32_t refusal) {
+    return DESK_MAP_CELLS(reply) == cells && DESK_MAP_PASSAGES(reply) == links && DESK_MAP_REFUSAL(reply) == refusal;
+}
+
+static void read_maps(void) {
+    static const char two[] = "type octile\nheight 1\nwidth 3\nmap\n.G@\n";
+    static const char one[] = "type octile\nheight 1\nwidth 1\nmap\n.\n";
+    static const uint32_t to_and_fro[7] = {0, 1, 1000, 1, 0, 1000, 77}, apart[5] = {0, 1000, 1000, 0, 77};
+    const uint8_t *text = (const uint8_t *)two;
+    uint32_t links[7] = {77, 77, 77, 77, 77, 77, 77}, table[5] = {77, 77, 77, 77, 77};
+    CHECK(is_map(desk_map(NULL, 0, links, 7, table, 5), 0, 0, 31));
+    CHECK(is_map(desk_map(text, sizeof two - 2, links, 7, table, 5), 0, 0, 32));
+    CHECK(is_map(desk_map(text, sizeof two - 1, links, 5, table, 5), 0, 0, 34));
+    CHECK(is_map(desk_map(text, sizeof two - 1, links, 7, table, 3), 0, 0, 34));
+    CHECK(is_map(desk_map(text, sizeof two - 1, NULL, 0, NULL, 0), 0, 0, 34));
+    CHECK(links[0] == 77 && links[6] == 77 && table[0] == 77 && table[4] == 77);
+    CHECK(is_map(desk_map((const uint8_t *)one, sizeof one - 1, NULL, 0, table, 1), 1, 0, 0) && table[0] == 0);
+    CHECK(is_map(desk_map(text, sizeof two - 1, links, 7, table, 5), 2, 2, 0));
+    CHECK(memcmp(links, to_and_fro, sizeof links) == 0 && memcmp(table, apart, sizeof table) == 0);
+    CHECK(desk_map_spot(text, sizeof two - 1, 1) == 1 && desk_map_state(text, sizeof two - 1, 0, 1) == 1);
+    CHECK(desk_map_spot(NULL, 0, 0) == DESK_NO_SPOT && desk_map_state(NULL, 0, 0, 0) == DESK_NO_STATE);
+    for (int i = 0; i < WIDE; i++) {
+        CHECK(desk_map_spot(text, sizeof two - 1, wide[i]) == DESK_NO_SPOT);
+        CHECK(desk_map_state(text, sizeof two - 1, wide[i], 0) == DESK_NO_STATE);
+        CHECK(desk_map_state(text, sizeof two - 1, 0, wide[i]) == DESK_NO_STATE);
+    }
+}
+
+static void print_files(void) {
+    static const char no_file[] = "file 21 0\n";
+    static uint8_t text[DESK_ROOM];
+    memset(text, '.', sizeof text);
+    CHECK(desk_print(NULL, 0, NULL, 0) == 0);
+    CHECK(desk_print(NULL, 0, text, DESK_ROOM - 1) == 0 && text[0] == '.');
+    CHECK(desk_print(NULL, 0, text, DESK_ROOM) == sizeof no_file - 1);
+    CHECK(memcmp(text, no_file, sizeof no_file - 1) == 0 && text[sizeof no_file - 1] == '.');
+}
+
+int main(void) {
+    uint32_t row[DESK_ROW];
+    run_singly(row);
+    run_as_a_morning(row);
+    read_paths(row);
+    refuse_openings();
+    refuse_lengths();
+    refuse_fields();
+    refuse_calls();
+    refuse_mornings();
+    lend_nothing();
+    read_maps();
+    print_files();
+    printf("%d\n", checks);
+    return 0;
+}
