@@ -54,3 +54,10 @@ put-byte κs a x y p q i = (same (p .next) (q .next) i, (same (p .done) (q .done
 
 pub put-word : Fixes f.decimal.put_word.ended f.decimal.put_word.Reads.Learnt
 put-word κs a x y p q i = (same (p .next) (q .next) i, (same (p .done) (q .done) i, (tt, (tt, tt))))
+
+-- status.rt
+pub refusal-at : Answers f.status.refusal_at.ended f.status.refusal_at.Reads.Asked f.status.refusal_at.Reads.Learnt
+refusal-at = (λ κs a. tt, λ κs a x y p q i. (same p q i, x .1))
+
+pub status-of : Answers f.status.status_of.ended f.status.status_of.Reads.Asked f.status.status_of.Reads.Learnt
+status-of = (λ κs a. tt, λ κs a x y p q i. (same p q i, x .1))

@@ -5,3 +5,5 @@ pub mod Text
 pub mod Laws
 pub mod LineLaws
 pub mod SessionLaws
+pub mod Status
+pub mod StatusLaws

@@ -2,9 +2,11 @@
 mod decimal;
 mod line;
 mod session;
+mod status;
 
 use desk::Machine;
 pub use session::report;
+pub use status::status_of;
 
 // A session that has come so far: the machine, and the next place of the text.
 pub struct Told {

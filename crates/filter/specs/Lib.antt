@@ -1,0 +1,2 @@
+-- What a run of `deskrun` comes to.
+pub mod Run
