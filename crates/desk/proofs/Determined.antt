@@ -11,21 +11,15 @@ pub opening : Answers f.Machine.opening.ended f.Machine.opening.Reads.Asked f.Ma
 opening = (λ κs a. tt, λ κs a x y p q i. (same p q i, x .1))
 
 -- take.rt
-pub act : Fixes f.take.act.ended f.take.act.Reads.Learnt
-act κs a x y p q i = (same p q i, x .1)
-
-pub take-step : Fixes f.take.take_step.ended f.take.take_step.Reads.Learnt
-take-step κs a x y p q i = (same p q i, x .1)
+pub take-checked : Fixes f.Machine.take_checked.ended f.Machine.take_checked.Reads.Learnt
+take-checked κs a x y p q i = (same p q i, x .1)
 
 pub take : Answers f.Machine.take.ended f.Machine.take.Reads.Asked f.Machine.take.Reads.Learnt
 take = (λ κs a. tt, λ κs a x y p q i. (same p q i, x .1))
 
 -- bring.rt
-pub sweep : Fixes f.bring.sweep.ended f.bring.sweep.Reads.Learnt
-sweep κs a x y p q i = (same p q i, x .1)
-
-pub bring-step : Fixes f.bring.bring_step.ended f.bring.bring_step.Reads.Learnt
-bring-step κs a x y p q i = (same p q i, x .1)
+pub bring-checked : Fixes f.Machine.bring_checked.ended f.Machine.bring_checked.Reads.Learnt
+bring-checked κs a x y p q i = (same p q i, x .1)
 
 pub bring : Answers f.Machine.bring.ended f.Machine.bring.Reads.Asked f.Machine.bring.Reads.Learnt
 bring = (λ κs a. tt, λ κs a x y p q i. (same p q i, x .1))
@@ -35,8 +29,8 @@ pub path : Answers f.Machine.path.ended f.Machine.path.Reads.Asked f.Machine.pat
 path = (λ κs a. tt, λ κs a x y p q i. (same (p .0) (q .0) i, (tt, (tt, (tt, (same (p .1) (q .1) i, (tt, tt)))))))
 
 -- mornings.rt
-pub called : Answers f.mornings.called.ended f.mornings.called.Reads.Asked f.mornings.called.Reads.Learnt
-called = (λ κs a. tt, λ κs a x y p q i. (same p q i, x .1))
+pub called : Fixes f.mornings.called.ended f.mornings.called.Reads.Learnt
+called κs a x y p q i = (same p q i, x .1)
 
 pub are-events : Answers f.mornings.are_events.ended f.mornings.are_events.Reads.Asked f.mornings.are_events.Reads.Learnt
 are-events = (λ κs a. tt, λ κs a x y p q i. (same p q i, x .1))
@@ -45,7 +39,7 @@ pub morning-fault : Answers f.mornings.morning_fault.ended f.mornings.morning_fa
 morning-fault = (λ κs a. tt, λ κs a x y p q i. (same p q i, x .1))
 
 pub serve : Fixes f.mornings.serve.ended f.mornings.serve.Reads.Learnt
-serve κs a x y p q i = (same (p .0) (q .0) i, (tt, (tt, (tt, (tt, (same (p .1) (q .1) i, tt))))))
+serve κs a x y p q i = (same (p .0) (q .0) i, (tt, (tt, (tt, (tt, (tt, (same (p .1) (q .1) i, tt)))))))
 
 pub morning : Answers f.Machine.morning.ended f.Machine.morning.Reads.Asked f.Machine.morning.Reads.Learnt
 morning = (λ κs a. tt, λ κs a x y p q i. (same (p .0) (q .0) i, (tt, (tt, (tt, (tt, (same (p .1) (q .1) i, tt)))))))
@@ -58,8 +52,14 @@ code = (λ κs a. tt, λ κs a x y p q i. (same p q i, x .1))
 pub refused : Answers f.fits.refused.ended f.fits.refused.Reads.Asked f.fits.refused.Reads.Learnt
 refused = (λ κs a. tt, λ κs a x y p q i. (same p q i, x .1))
 
-pub fits : Answers f.fits.fits.ended f.fits.fits.Reads.Asked f.fits.fits.Reads.Learnt
-fits = (λ κs a. tt, λ κs a x y p q i. (same p q i, x .1))
+pub task-fits : Answers f.fits.task_fits.ended f.fits.task_fits.Reads.Asked f.fits.task_fits.Reads.Learnt
+task-fits = (λ κs a. tt, λ κs a x y p q i. (same p q i, x .1))
 
-pub call-fault : Answers f.fits.call_fault.ended f.fits.call_fault.Reads.Asked f.fits.call_fault.Reads.Learnt
-call-fault = (λ κs a. tt, λ κs a x y p q i. (same p q i, x .1))
+pub rows-fit : Fixes f.fits.rows_fit.ended f.fits.rows_fit.Reads.Learnt
+rows-fit κs a x y p q i = (same p q i, x .1)
+
+pub fits : Fixes f.fits.fits.ended f.fits.fits.Reads.Learnt
+fits κs a x y p q i = (same p q i, x .1)
+
+pub call-fault : Fixes f.fits.call_fault.ended f.fits.call_fault.Reads.Learnt
+call-fault κs a x y p q i = (same p q i, x .1)

@@ -11,9 +11,9 @@ use Rattle.desk.specs.Reply.{refused}
 use Rattle.desk.specs.Fits.{fits}
 
 -- 8 "task or machine doesn't fit"; 9 "worker number not below k"; 10 "phase isn't 0"; 11 is the call's own: `ready` says what it asks of the worker's hands
-unfoldable pub admitted : Machine → List ℕ → List ℕ → ℕ → Bool → Answer → Answer
-admitted m passages estimates worker ready call =
-    provided (fits m passages estimates) (refused m unfit)
+unfoldable pub admitted : Machine → List ℕ → List ℕ → List ℕ → ℕ → Bool → Answer → Answer
+admitted m held passages estimates worker ready call =
+    provided (fits m held passages estimates) (refused m unfit)
     (provided (ltb worker (m .k)) (refused m noWorker)
     (provided (eqb (m .phase) 0) (refused m notSearching)
     (provided ready (refused m wrongHands)

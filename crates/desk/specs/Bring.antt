@@ -2,21 +2,24 @@
 use mathlib.Core.Bool.{_&&_, not, cond}
 use mathlib.Core.List.{List}
 use Prim.Native.Nat.{ℕ, _+_}
-use lib.ListN.{getD}
+use lib.ListN.{getD, set}
 use lib.Dec.{eqb}
 use Rattle.laws.specs.Fold.{fold}
 use Rattle.rule.specs.Task.{passageCount, near, far, cost, isClear}
 use Rattle.rule.specs.Marks.{waiting, finished, none}
 use Rattle.rule.specs.Rule.{lowers}
 use Rattle.desk.specs.declared.Machine.{Machine}
-use Rattle.desk.specs.declared.Swept.{Swept}
 use Rattle.desk.specs.declared.Reply.the-variants.{Brought}
 use Rattle.desk.specs.declared.Answer.{Answer}
-use Rattle.desk.specs.Machine.{withMark, withLabel, withVia, withHeld, heldBy, labelOf}
+use Rattle.desk.specs.Machine.{withMark, withLabel, withVia, withHands, handsOf, heldBy, labelOf}
 use Rattle.desk.specs.Reply.{answer}
 use Rattle.desk.specs.Admission.{admitted}
 
--- a pass that has come so far: the machine, and how many times a label was set or lowered
+-- a pass over passages that has come so far: the machine, and how many times a label was set or lowered
+pub record Swept : Type 0 where
+  pub machine : Machine
+  pub many : ℕ
+
 abbrev pub swept : Machine → ℕ → Swept
 swept m many = record { machine = m; many = many }
 
@@ -37,12 +40,14 @@ unfoldable pub sweepOf : Machine → List ℕ → ℕ → Swept
 sweepOf m passages state = fold (applyPassage passages state (labelOf m state)) (swept m 0) (passageCount passages)
 
 -- "Then the held state is finished, the worker holds nothing. Reply: Brought with how many times a label was set or lowered."
-abbrev pub finish : ℕ → ℕ → Swept → Answer
-finish worker state w = answer (withHeld (withMark (w .machine) state finished) worker none) (Brought (w .many))
+abbrev pub finish : List ℕ → ℕ → ℕ → Swept → Answer
+finish held worker state w = answer (withHands (withMark (w .machine) state finished) (set held worker none)) (Brought (w .many))
 
-unfoldable pub bringStep : Machine → List ℕ → ℕ → Answer
-bringStep m passages worker = finish worker (heldBy m worker) (sweepOf m passages (heldBy m worker))
+unfoldable pub bringStep : Machine → List ℕ → List ℕ → ℕ → Answer
+bringStep m held passages worker = finish held worker (heldBy held worker) (sweepOf m passages (heldBy held worker))
 
 -- 11 "Bring: it holds none"
 unfoldable pub bringOf : Machine → List ℕ → List ℕ → ℕ → Answer
-bringOf m passages estimates worker = admitted m passages estimates worker (not (eqb (heldBy m worker) none)) (bringStep m passages worker)
+bringOf m passages estimates worker =
+    let held = handsOf m in
+    admitted m held passages estimates worker (not (eqb (heldBy held worker) none)) (bringStep m held passages worker)

@@ -1,4 +1,4 @@
--- The answers to a list of events, taken one more at a time, and the numbers that replies are in a row.
+-- The answers to a list of events, taken one more at a time, what they leave as it was, and the numbers that replies are in a row.
 use mathlib.Core.Path.{_≡_, refl, sym, ap, _∙_}
 use mathlib.Core.Bool.{Bool, true, false, cond}
 use mathlib.Core.List.{List, [], _∷_, _++_, map}
@@ -15,10 +15,19 @@ use Rattle.laws.specs.Part.{overlaid}
 use Rattle.laws.specs.Put.{Put, put-none, put-next, put-one}
 use Rattle.laws.specs.Map.{map-append}
 use Rattle.rule.specs.Refusals.{shortRow, noEvent}
+use Rattle.checks.specs.Opening.{Task, earlyFault}
+use Rattle.dealing.specs.declared.Decision.{Decision}
+use Rattle.dealing.specs.declared.Decision.the-variants.{Found as FoundAt, NoPath as NoPathLeft, Deal, Stuck, Wait as WaitOn}
+use Rattle.dealing.specs.Decision.{decision}
 use Rattle.desk.specs.declared.Machine.{Machine}
 use Rattle.desk.specs.declared.Reply.{Reply}
 use Rattle.desk.specs.declared.Reply.the-variants.{Opened, Took, Brought, Found, NoPath, Wait, Read, Refused, Done}
 use Rattle.desk.specs.declared.Answer.{Answer}
+use Rattle.desk.specs.Machine.{handsOf, heldBy, taskOf, boardOf}
+use Rattle.desk.specs.Fits.{taskFits}
+use Rattle.desk.specs.Take.{act, takeStep, takeOf}
+use Rattle.desk.specs.Bring.{bringStep, bringOf}
+use Rattle.desk.specs.Laws.{admitted-either, sweep-leaves}
 use Rattle.desk.specs.Reply.{answer, refused, valueOf, codeOf, replyWith, replyOf}
 use Rattle.desk.specs.Calls.{Event, take, bring, workerOf, call, answers, replies, lastOf, after}
 use Rattle.desk.specs.Morning.{eventOf, eventsOf, eventsRight, morningFault, Morning, morningOf}
@@ -30,6 +39,23 @@ event-worker number = go (eqb (number / 65536) 0)
     go : (b : Bool) → workerOf (cond b (take (number % 65536)) (bring (number % 65536))) ≡ number % 65536
     go true = refl
     go false = refl
+
+-- no call changes the task's numbers
+act-task : (passages estimates : List ℕ) (m : Machine) (held : List ℕ) (worker : ℕ) (d : Decision) → taskOf (act m held worker d .machine) passages estimates ≡ taskOf m passages estimates
+act-task passages estimates m held worker (FoundAt cost) = refl
+act-task passages estimates m held worker NoPathLeft = refl
+act-task passages estimates m held worker (Deal s) = refl
+act-task passages estimates m held worker Stuck = refl
+act-task passages estimates m held worker (WaitOn s) = refl
+
+pub call-task : (passages estimates : List ℕ) (m : Machine) (e : Event) → taskOf (call passages estimates m e .machine) passages estimates ≡ taskOf m passages estimates
+unfolding takeOf takeStep bringOf bringStep
+call-task passages estimates m (take worker) =
+    admitted-either m (handsOf m) passages estimates (λ a. taskOf (a .machine) passages estimates ≡ taskOf m passages estimates) worker _ _ (λ _ _. refl)
+    (λ _ _. act-task passages estimates m (handsOf m) worker (decision (m .goal) (m .pull) (boardOf m estimates)))
+call-task passages estimates m (bring worker) =
+    admitted-either m (handsOf m) passages estimates (λ a. taskOf (a .machine) passages estimates ≡ taskOf m passages estimates) worker _ _ (λ _ _. refl)
+    (λ _ _. sweep-leaves (λ (x : Machine). taskOf x passages estimates) (λ _ _ _ _. refl) m passages (heldBy (handsOf m) worker))
 
 -- events after others, and one event more
 last-append : (m : Machine) (given more : List Answer) → lastOf m (given ++ more) ≡ lastOf (lastOf m given) more
@@ -64,6 +90,16 @@ module _ (passages estimates : List ℕ) where
   unfolding replies answers
   replies-length m [] = refl
   replies-length m (x ∷ es) = rw (replies-length (call passages estimates m x .machine) es)
+
+  after-task : (m : Machine) (es : List Event) → taskOf (after passages estimates m es) passages estimates ≡ taskOf m passages estimates
+  unfolding after answers
+  after-task m [] = refl
+  after-task m (e ∷ es) = after-task (call passages estimates m e .machine) es ∙ call-task passages estimates m e
+
+  -- so that whether conditions 1 to 4 hold is looked at once for all of them
+  pub after-sound : (sound : Bool) (m₀ m : Machine) (es : List Event) → sound ≡ taskFits m₀ passages estimates → m ≡ after passages estimates m₀ es → sound ≡ taskFits m passages estimates
+  after-sound sound m₀ m es s e =
+      s ∙ ap (λ (t : Task). eqb (earlyFault t) 0) (sym (after-task m₀ es) ∙ ap (λ (x : Machine). taskOf x passages estimates) (sym e))
 
 -- the first so many events of a list of numbers
 abbrev pub firsts : List ℕ → ℕ → List Event

@@ -1,6 +1,6 @@
 -- What the inner functions of the calls ask, what a machine that fits gives them, and what Bring's loop knows.
-use mathlib.Core.Path.{_≡_, refl, sym, ap, _∙_}
-use mathlib.Core.Bool.{Bool, true, false, not}
+use mathlib.Core.Path.{_≡_, refl, sym, ap, subst⁻¹, _∙_}
+use mathlib.Core.Bool.{Bool, true, false, not, _&&_, cond}
 use mathlib.Core.List.{List, [], _++_}
 use Prim.Native.Nat.{ℕ, _+_, _-_, _≤_, _<_}
 use native.Mathlib.Omega.{arith}
@@ -8,8 +8,8 @@ use lib.ListN.{length, getD, drop}
 use lib.Dec.{ltb, leb, eqb}
 use borrow.Author.Tests.{eqb-true, eqb-false, ltb-true, leb-true, not-true, eq-eqb, ne-eqb, lt-ltb, le-leb, lt-leb}
 use borrow.Rule.Slice.PartMut.{midOf, putMid}
-use Rattle.laws.specs.Truth.{and-left, and-right, provided, provided-either}
-use Rattle.laws.specs.Fold.{fold, fold-zero, fold-more}
+use Rattle.laws.specs.Truth.{and-left, and-right, cond-either, provided, provided-either, provided-kept}
+use Rattle.laws.specs.Fold.{fold, fold-zero, fold-more, fold-keeps}
 use Rattle.laws.specs.Part.{overlaid, put-overlaid}
 use Rattle.rule.specs.Task.{passageCount, near, far, cost, isClear}
 use Rattle.rule.specs.Marks.{none}
@@ -26,13 +26,14 @@ use Rattle.dealing.specs.declared.Decision.the-variants.{Found, NoPath, Deal, S
 use Rattle.trail.specs.Trail.{path}
 use Rattle.trail.specs.Laws.{Inside, Followed, statesBack, path-followed, path-states}
 use Rattle.desk.specs.declared.Machine.{Machine}
-use Rattle.desk.specs.declared.Reply.the-variants.{Read}
-use Rattle.desk.specs.Machine.{taskOf, trailOf, labelOf, heldBy}
+use Rattle.desk.specs.declared.Reply.the-variants.{Opened, Read}
+use Rattle.desk.specs.Machine.{taskOf, trailOf, labelOf, handsOf, heldBy}
 use Rattle.desk.specs.declared.Answer.{Answer}
-use Rattle.desk.specs.Reply.{answer, refused}
-use Rattle.desk.specs.Fits.{fits}
+use Rattle.desk.specs.Reply.{answer, refused, refusalOf}
+use Rattle.desk.specs.Opening.{openedMachine, blankMachine, openingOf}
+use Rattle.desk.specs.Fits.{rowsFit, taskFits, fits}
 use Rattle.desk.specs.Admission.{admitted}
-use Rattle.desk.specs.Bring.{swept, labelled, applyPassage, sweepOf}
+use Rattle.desk.specs.Bring.{Swept, swept, labelled, applyPassage, sweepOf, finish, bringStep}
 use Rattle.desk.specs.Path.{PathReading, pathRefused, pathOf}
 
 -- a task that opening accepts starts at a place of the rows
@@ -41,6 +42,18 @@ start-in t e =
     let r = right t (fault-none t e) in
     omega (arith, r .start-in, r .states)
 
+-- and conditions 1 to 4 hold of it and the machine that it starts with
+pub opened-sound : (t : Task) (a : Answer) → a ≡ openingOf t → refusalOf (a .reply) ≡ 0 → taskFits (a .machine) (t .passages) (t .estimates) ≡ true
+unfolding openingOf openedMachine
+opened-sound t a e = subst⁻¹ Sound e (go (eqb (fault t) 0) refl)
+  where
+    Sound : Answer → Type 0
+    Sound x = refusalOf (x .reply) ≡ 0 → taskFits (x .machine) (t .passages) (t .estimates) ≡ true
+
+    go : (b : Bool) → eqb (fault t) 0 ≡ b → Sound (cond b (answer (openedMachine t) Opened) (refused blankMachine (fault t)))
+    go true q z = eq-eqb (earlyFault t) 0 (fault-none t (eqb-true (fault t) 0 q))
+    go false q z = absurd (eqb-false (fault t) 0 q z)
+
 -- a machine whose rows are as long as their types say
 pub record Sized (m : Machine) : Type 0 where
   pub marks : length (m .mark) ≡ 256
@@ -48,76 +61,97 @@ pub record Sized (m : Machine) : Type 0 where
   pub vias : length (m .via) ≡ 256
   pub workers : length (m .held) ≡ 32
 
--- a machine that fits, as facts
-pub record Fitting (m : Machine) (passages estimates : List ℕ) : Type 0 where
+-- a machine that fits, with what its workers hold, as facts
+pub record Fitting (m : Machine) (held passages estimates : List ℕ) : Type 0 where
   pub task : Right (taskOf m passages estimates)
   pub labels : labelsRight (m .label) (m .n) ≡ true
-  pub workers : workersRight (m .mark) (m .held) (m .n) (m .k) ≡ true
+  pub workers : workersRight (m .mark) held (m .n) (m .k) ≡ true
 
-pub fitting : (m : Machine) (passages estimates : List ℕ) → fits m passages estimates ≡ true → Fitting m passages estimates
-unfolding fits
-fitting m passages estimates e =
-    let e₁ = and-right (eqb (earlyFault (taskOf m passages estimates)) 0) _ e in
+-- where conditions 1 to 4 hold
+pub sound-task : (t : Task) → eqb (earlyFault t) 0 ≡ true → Right t
+sound-task t e = right t (eqb-true (earlyFault t) 0 e)
+
+pub sound-sizes : (t : Task) (sound : Bool) → sound ≡ eqb (earlyFault t) 0 → sound ≡ true → (t .n ≤ 256) × (t .k ≤ 32)
+sound-sizes t sound s e = let r = sound-task t (sym s ∙ e) in (r .states, r .workers)
+
+pub fitting : (m : Machine) (held passages estimates : List ℕ) → fits m held passages estimates ≡ true → Fitting m held passages estimates
+unfolding fits rowsFit
+fitting m held passages estimates e =
+    let e₁ = and-right (taskFits m passages estimates) _ e in
     let e₂ = and-right (phaseRight (m .phase)) _ e₁ in
     let e₃ = and-right (marksRight (m .mark) (m .n)) _ e₂ in
     let e₄ = and-right (labelsRight (m .label) (m .n)) _ e₃ in
     record {
-      task = right (taskOf m passages estimates) (eqb-true _ 0 (and-left _ _ e));
+      task = sound-task (taskOf m passages estimates) (and-left _ _ e);
       labels = and-left _ _ e₃;
       workers = and-left _ _ e₄;
     }
-
--- the first of 8, 9 and 10 that applies, or 0
-unfoldable pub callFault : Machine → List ℕ → List ℕ → ℕ → ℕ
-callFault m passages estimates worker =
-    provided (fits m passages estimates) unfit
-    (provided (ltb worker (m .k)) noWorker
-    (provided (eqb (m .phase) 0) notSearching
-    0))
-
--- what is known once none of 8, 9 and 10 applies
-pub record Admitted (m : Machine) (passages estimates : List ℕ) (worker : ℕ) : Type 0 where
-  pub fit : fits m passages estimates ≡ true
-  pub worker-in : worker < m .k
-  pub searching : m .phase ≡ 0
 
 -- the ladder of 8, 9 and 10 over what the three conditions come to
 abbrev ladder : Bool → Bool → Bool → ℕ
 ladder a b c = provided a unfit (provided b noWorker (provided c notSearching 0))
 
-ladder-clear : (a b c : Bool) → ladder a b c ≡ 0 → (a ≡ true) × ((b ≡ true) × (c ≡ true))
-ladder-clear true true true e = (refl, (refl, refl))
-ladder-clear true true false e = absurd (omega arith)
-ladder-clear true false c e = absurd (omega arith)
-ladder-clear false b c e = absurd (omega arith)
+-- the first of 8, 9 and 10 that applies, or 0, by whether the machine fits
+unfoldable pub callFault : Bool → ℕ → ℕ → ℕ → ℕ
+callFault fit k phase worker = ladder fit (ltb worker k) (eqb phase 0)
 
-module _ (m : Machine) (passages estimates : List ℕ) (worker : ℕ) where
-  pub call-admitted : callFault m passages estimates worker ≡ 0 → Admitted m passages estimates worker
+-- what is known once none of 8, 9 and 10 applies
+pub record Admitted (m : Machine) (held passages estimates : List ℕ) (worker : ℕ) : Type 0 where
+  pub fit : fits m held passages estimates ≡ true
+  pub worker-in : worker < m .k
+  pub searching : m .phase ≡ 0
+
+-- what the code finds of "Fits", where conditions 1 to 4 come to `sound`
+pub fits-by : (m : Machine) (held passages estimates : List ℕ) (sound : Bool) → sound ≡ taskFits m passages estimates
+    → (fit : Bool) → fit ≡ (sound && rowsFit (m .n) (m .k) (m .phase) (m .mark) (m .label) held) → fit ≡ fits m held passages estimates
+unfolding fits
+fits-by m held passages estimates sound s fit e = rw s at e
+
+-- a call whose first refusal, as the code finds it, is `number`: conditions 1 to 4 come to `sound`
+module _ (m : Machine) (held passages estimates : List ℕ) (worker : ℕ) (sound : Bool) (number : ℕ) (s : sound ≡ taskFits m passages estimates)
+    (q : number ≡ callFault (sound && rowsFit (m .n) (m .k) (m .phase) (m .mark) (m .label) held) (m .k) (m .phase) worker) where
+  found-fault : number ≡ callFault (fits m held passages estimates) (m .k) (m .phase) worker
+  found-fault = q ∙ ap (λ (fit : Bool). callFault fit (m .k) (m .phase) worker) (fits-by m held passages estimates sound s _ refl)
+
+  pub call-admitted : number ≡ 0 → Admitted m held passages estimates worker
   unfolding callFault
-  call-admitted e =
-      let h = ladder-clear (fits m passages estimates) (ltb worker (m .k)) (eqb (m .phase) 0) e in
-      record { fit = h .0; worker-in = ltb-true worker (m .k) (h .1 .0); searching = eqb-true (m .phase) 0 (h .1 .1) }
+  call-admitted z =
+      let (fit, rest) = provided-kept (fits m held passages estimates) unfit _ (λ q. omega arith) (sym found-fault ∙ z) in
+      let (below, last) = provided-kept (ltb worker (m .k)) noWorker _ (λ q. omega arith) rest in
+      record { fit = fit; worker-in = ltb-true worker (m .k) below; searching = eqb-true (m .phase) 0 (provided-kept (eqb (m .phase) 0) notSearching 0 (λ q. omega arith) last .0) }
 
-  -- a call that is turned away, one whose worker's hands aren't ready, and one that goes on
-  module _ (ready : Bool) (call : Answer) where
-    pub turned-away : (callFault m passages estimates worker ≡ 0 → ⊥) → refused m (callFault m passages estimates worker) ≡ admitted m passages estimates worker ready call
-    unfolding callFault admitted
-    turned-away = go (fits m passages estimates) (ltb worker (m .k)) (eqb (m .phase) 0)
-      where
-        go : (a b c : Bool) → (ladder a b c ≡ 0 → ⊥)
-            → refused m (ladder a b c) ≡ provided a (refused m unfit) (provided b (refused m noWorker) (provided c (refused m notSearching) (provided ready (refused m wrongHands) call)))
-        go false b c n = refl
-        go true false c n = refl
-        go true true false n = refl
-        go true true true n = absurd (n refl)
+  -- a call that is turned away
+  pub turned-away : (ready : Bool) (call : Answer) → (number ≡ 0 → ⊥) → refused m number ≡ admitted m held passages estimates worker ready call
+  unfolding callFault admitted
+  turned-away ready call n = rw found-fault (go (fits m held passages estimates) (ltb worker (m .k)) (eqb (m .phase) 0) (λ z. n (found-fault ∙ z)))
+    where
+      go : (a b c : Bool) → (ladder a b c ≡ 0 → ⊥)
+          → refused m (ladder a b c) ≡ provided a (refused m unfit) (provided b (refused m noWorker) (provided c (refused m notSearching) (provided ready (refused m wrongHands) call)))
+      go false b c n = refl
+      go true false c n = refl
+      go true true false n = refl
+      go true true true n = absurd (n refl)
 
-    pub not-ready : Admitted m passages estimates worker → ready ≡ false → refused m wrongHands ≡ admitted m passages estimates worker ready call
-    unfolding admitted
-    not-ready a r = rw (a .fit, lt-ltb worker (m .k) (a .worker-in), eq-eqb (m .phase) 0 (a .searching), r)
+-- what holds of each refusal, and of a call that goes on, holds of whatever is answered
+pub admitted-either : (m : Machine) (held passages estimates : List ℕ) (P : Answer → Type 0) (worker : ℕ) (ready : Bool) (call : Answer) → ((number : ℕ) → number ≤ 11 → P (refused m number))
+    → (Admitted m held passages estimates worker → ready ≡ true → P call) → P (admitted m held passages estimates worker ready call)
+unfolding admitted
+admitted-either m held passages estimates P worker ready call refusal goes =
+    provided-either P (fits m held passages estimates) _ _ (refusal unfit (omega arith))
+    (λ f. provided-either P (ltb worker (m .k)) _ _ (refusal noWorker (omega arith))
+    (λ l. provided-either P (eqb (m .phase) 0) _ _ (refusal notSearching (omega arith))
+    (λ p. provided-either P ready _ call (refusal wrongHands (omega arith))
+    (λ r. goes (record { fit = f; worker-in = ltb-true worker (m .k) l; searching = eqb-true (m .phase) 0 p }) r))))
 
-    pub goes-on : Admitted m passages estimates worker → ready ≡ true → call ≡ admitted m passages estimates worker ready call
-    unfolding admitted
-    goes-on a r = rw (a .fit, lt-ltb worker (m .k) (a .worker-in), eq-eqb (m .phase) 0 (a .searching), r)
+-- one whose worker's hands aren't ready, and one that goes on
+module _ (m : Machine) (held passages estimates : List ℕ) (worker : ℕ) (ready : Bool) (call : Answer) where
+  pub not-ready : Admitted m held passages estimates worker → ready ≡ false → refused m wrongHands ≡ admitted m held passages estimates worker ready call
+  unfolding admitted
+  not-ready a r = rw (a .fit, lt-ltb worker (m .k) (a .worker-in), eq-eqb (m .phase) 0 (a .searching), r)
+
+  pub goes-on : Admitted m held passages estimates worker → ready ≡ true → call ≡ admitted m held passages estimates worker ready call
+  unfolding admitted
+  goes-on a r = rw (a .fit, lt-ltb worker (m .k) (a .worker-in), eq-eqb (m .phase) 0 (a .searching), r)
 
 -- a state that a decision names has a place in the rows
 abbrev pub Placed : Decision → Type 0
@@ -145,20 +179,35 @@ pub record Carried (m : Machine) (passages : List ℕ) (s : ℕ) : Type 0 where
   pub fars : (i : ℕ) → i < passageCount passages → far passages i < 256
   pub costs : (i : ℕ) → i < passageCount passages → isClear passages i ≡ true → cost passages i ≤ 1000000
 
-pub carried : (m : Machine) (passages estimates : List ℕ) (worker : ℕ) → Fitting m passages estimates → worker < m .k → (heldBy m worker ≡ none → ⊥) → Carried m passages (heldBy m worker)
-carried m passages estimates worker f l h =
-    let s = worker-holds (m .mark) (m .held) (m .n) (m .k) (f .workers) worker l h in
+pub carried : (m : Machine) (held passages estimates : List ℕ) (worker : ℕ) → Fitting m held passages estimates → worker < m .k → (heldBy held worker ≡ none → ⊥) → Carried m passages (heldBy held worker)
+carried m held passages estimates worker f l h =
+    let s = worker-holds (m .mark) held (m .n) (m .k) (f .workers) worker l h in
     record {
       few = f .task .few;
       state = omega (arith, s .0, f .task .states);
-      low = label-low (m .label) (m .n) (f .labels) (heldBy m worker) (s .0);
+      low = label-low (m .label) (m .n) (f .labels) (heldBy held worker) (s .0);
       fars = λ i q. omega (arith, far-in passages (m .n) (f .task .listed) i q, f .task .states);
       costs = λ i q k. cost-in passages (m .n) (f .task .listed) i q k;
     }
 
 -- the passages of a machine that fits come from places of the rows
-pub inside : (m : Machine) (passages estimates : List ℕ) → Fitting m passages estimates → Inside passages
-inside m passages estimates f i l = omega (arith, near-in passages (m .n) (f .task .listed) i l, f .task .states)
+pub inside : (m : Machine) (held passages estimates : List ℕ) → Fitting m held passages estimates → Inside passages
+inside m held passages estimates f i l = omega (arith, near-in passages (m .n) (f .task .listed) i l, f .task .states)
+
+-- one passage leaves the pass as it was, or gives its far end a label
+pub apply-either : (P : Swept → Type 0) (passages : List ℕ) (state label i : ℕ) (w : Swept) → P w
+    → P (swept (labelled (w .machine) (far passages i) (label + cost passages i) i) (w .many + 1)) → P (applyPassage passages state label i w)
+unfolding applyPassage
+apply-either P passages state label i w kept set =
+    cond-either P (eqb (near passages i) state && isClear passages i) _ _
+    (cond-either P (lowers (getD (w .machine .mark) (far passages i) 0) (labelOf (w .machine) (far passages i)) (label + cost passages i)) _ _ set kept) kept
+
+-- what is read off a machine but its marks, labels and passage numbers, a pass over passages leaves as it was
+pub sweep-leaves : {A : Type 0} (read : Machine → A) → ((m : Machine) (s sum i : ℕ) → read (labelled m s sum i) ≡ read m) → (m : Machine) (passages : List ℕ) (s : ℕ) → read (sweepOf m passages s .machine) ≡ read m
+unfolding sweepOf
+sweep-leaves read same m passages s =
+    fold-keeps (applyPassage passages s (labelOf m s)) (λ (w : Swept). read (w .machine))
+    (λ i w. apply-either (λ (v : Swept). read (v .machine) ≡ read (w .machine)) passages s (labelOf m s) i w refl (same (w .machine) (far passages i) (labelOf m s + cost passages i) i)) (swept m 0) (passageCount passages)
 
 -- what Bring's loop knows at passage i: the machine and the count are those of the fold so far
 pub record Run (m₀ m : Machine) (passages : List ℕ) (s many i : ℕ) : Type 0 where
@@ -169,9 +218,18 @@ pub record Run (m₀ m : Machine) (passages : List ℕ) (s many i : ℕ) : Type 
 pub run-zero : (m : Machine) (passages : List ℕ) (s : ℕ) → Run m m passages s 0 0
 run-zero m passages s = record { done = sym (fold-zero (applyPassage passages s (labelOf m s)) _); within = omega arith; counted = omega arith }
 
-pub run-end : (m₀ m : Machine) (passages : List ℕ) (s many i : ℕ) → Run m₀ m passages s many i → passageCount passages ≤ i → swept m many ≡ sweepOf m₀ passages s
+run-end : (m₀ m : Machine) (passages : List ℕ) (s many i : ℕ) → Run m₀ m passages s many i → passageCount passages ≤ i → swept m many ≡ sweepOf m₀ passages s
 unfolding sweepOf
 run-end m₀ m passages s many i r l = let q : i ≡ passageCount passages = omega arith in rw (← q) (r .done)
+
+-- past the last passage: what the workers hold is as it was, and so the state that was held is finished as Bring says
+pub run-brought : (m₀ m : Machine) (passages : List ℕ) (worker s many i : ℕ) → Run m₀ m passages s many i → passageCount passages ≤ i → s ≡ heldBy (handsOf m₀) worker
+    → finish (handsOf m) worker s (swept m many) ≡ bringStep m₀ (handsOf m₀) passages worker
+unfolding bringStep
+run-brought m₀ m passages worker s many i r l e =
+    ap (λ (w : Swept). finish (handsOf (w .machine)) worker s w) (run-end m₀ m passages s many i r l)
+    ∙ ap (λ (held : List ℕ). finish held worker s (sweepOf m₀ passages s)) (sweep-leaves handsOf (λ _ _ _ _. refl) m₀ passages s)
+    ∙ ap (λ (x : ℕ). finish (handsOf m₀) worker x (sweepOf m₀ passages x)) e
 
 module _ (m₀ m : Machine) (passages : List ℕ) (s many i : ℕ) (r : Run m₀ m passages s many i) (l : i < passageCount passages) where
   more : (m′ : Machine) (many′ : ℕ) → many′ ≤ many + 1 → swept m′ many′ ≡ applyPassage passages s (labelOf m₀ s) i (swept m many) → Run m₀ m′ passages s many′ (i + 1)
@@ -210,17 +268,17 @@ module _ (m : Machine) (passages estimates buffer : List ℕ) (at : ℕ) where
       → P (pathOf m passages estimates buffer at)
   unfolding pathOf
   path-either P refusal reads =
-      provided-either P (fits m passages estimates) _ _ (refusal unfit (omega arith))
+      provided-either P (fits m (handsOf m) passages estimates) _ _ (refusal unfit (omega arith))
       (λ _. provided-either P (eqb (m .phase) 1) _ _ (refusal notFound (omega arith))
       (λ _. provided-either P (not (eqb (length (path (trailOf m passages))) 0)) _ _ (refusal brokenTrail (omega arith))
       (λ some. provided-either P (leb (length (path (trailOf m passages))) (length buffer - at)) _ _ (refusal shortBuffer (omega arith))
       (λ room. reads (eqb-false _ 0 (not-true _ some)) (leb-true _ _ room)))))
 
-  pub path-unfit : fits m passages estimates ≡ false → pathOf m passages estimates buffer at ≡ pathRefused m buffer unfit
+  pub path-unfit : fits m (handsOf m) passages estimates ≡ false → pathOf m passages estimates buffer at ≡ pathRefused m buffer unfit
   unfolding pathOf
   path-unfit f = rw f
 
-  module _ (f : fits m passages estimates ≡ true) where
+  module _ (f : fits m (handsOf m) passages estimates ≡ true) where
     pub path-early : (m .phase ≡ 1 → ⊥) → pathOf m passages estimates buffer at ≡ pathRefused m buffer notFound
     unfolding pathOf
     path-early p = rw (f, ne-eqb (m .phase) 1 p)
@@ -241,15 +299,15 @@ module _ (m : Machine) (passages estimates buffer : List ℕ) (at : ℕ) where
         path-read l = rw (f, eq-eqb (m .phase) 1 p, ← q, ne-eqb many 0 z, le-leb many (length buffer - at) l)
 
         goal-in : m .goal < 256
-        goal-in = let h = fitting m passages estimates f in omega (arith, h .task .goal-in, h .task .states)
+        goal-in = let h = fitting m (handsOf m) passages estimates f in omega (arith, h .task .goal-in, h .task .states)
 
         -- the path can be followed and written
         pub path-way : Followed passages (m .via) many (m .goal)
-        path-way = rw q (path-followed (trailOf m passages) (inside m passages estimates (fitting m passages estimates f)) goal-in (λ e. z (q ∙ e)))
+        path-way = rw q (path-followed (trailOf m passages) (inside m (handsOf m) passages estimates (fitting m (handsOf m) passages estimates f)) goal-in (λ e. z (q ∙ e)))
 
         -- the part that was lent for the path, written and back in the buffer
         pub path-written : (part : List ℕ) → part ≡ statesBack passages (m .via) many (m .goal) [] ++ drop many (midOf at (length buffer - at) buffer)
             → putMid at (length buffer - at) buffer part ≡ overlaid at (path (trailOf m passages)) buffer
         path-written part e =
-            rw (e, q, ← path-states (trailOf m passages) (inside m passages estimates (fitting m passages estimates f)) goal-in (λ e. z (q ∙ e)))
+            rw (e, q, ← path-states (trailOf m passages) (inside m (handsOf m) passages estimates (fitting m (handsOf m) passages estimates f)) goal-in (λ e. z (q ∙ e)))
             (put-overlaid at buffer (path (trailOf m passages)))

@@ -13,7 +13,7 @@ abbrev rebuilt : Machine → ℕ → List ℕ → List ℕ → List ℕ → List
 rebuilt m phase mark label via held =
     record { n = m .n; k = m .k; start = m .start; goal = m .goal; pull = m .pull; excess = m .excess; phase = phase; mark = mark; label = label; via = via; held = held }
 
--- one thing set: the phase; a state's mark, label or passage number; what a worker holds
+-- one thing set: the phase; a state's mark, label or passage number; what the workers hold
 abbrev pub withPhase : Machine → ℕ → Machine
 withPhase m p = rebuilt m p (m .mark) (m .label) (m .via) (m .held)
 
@@ -26,12 +26,16 @@ withLabel m s l = rebuilt m (m .phase) (m .mark) (set (m .label) s l) (m .via) (
 abbrev pub withVia : Machine → ℕ → ℕ → Machine
 withVia m s i = rebuilt m (m .phase) (m .mark) (m .label) (set (m .via) s i) (m .held)
 
-abbrev pub withHeld : Machine → ℕ → ℕ → Machine
-withHeld m w s = rebuilt m (m .phase) (m .mark) (m .label) (m .via) (set (m .held) w s)
+abbrev pub withHands : Machine → List ℕ → Machine
+withHands m held = rebuilt m (m .phase) (m .mark) (m .label) (m .via) held
+
+-- what the workers hold: read off the machine here, and given to the steps, to "Fits" and to the refusals as a row of its own
+abbrev pub handsOf : Machine → List ℕ
+handsOf m = m .held
 
 -- the state that a worker holds, or `none`
-abbrev pub heldBy : Machine → ℕ → ℕ
-heldBy m w = getD (m .held) w 0
+abbrev pub heldBy : List ℕ → ℕ → ℕ
+heldBy held w = getD held w 0
 
 abbrev pub markOf : Machine → ℕ → ℕ
 markOf m s = getD (m .mark) s 0

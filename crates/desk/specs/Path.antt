@@ -11,7 +11,7 @@ use Rattle.trail.specs.Trail.{path}
 use Rattle.desk.specs.declared.Machine.{Machine}
 use Rattle.desk.specs.declared.Reply.the-variants.{Read}
 use Rattle.desk.specs.declared.Answer.{Answer}
-use Rattle.desk.specs.Machine.{trailOf}
+use Rattle.desk.specs.Machine.{handsOf, trailOf}
 use Rattle.desk.specs.Reply.{answer, refused}
 use Rattle.desk.specs.Fits.{fits}
 
@@ -27,7 +27,7 @@ pathRefused m buffer number = record { given = refused m number; buffer = buffer
 unfoldable pub pathOf : Machine → List ℕ → List ℕ → List ℕ → ℕ → PathReading
 pathOf m passages estimates buffer at =
     let states = path (trailOf m passages) in
-    provided (fits m passages estimates) (pathRefused m buffer unfit)
+    provided (fits m (handsOf m) passages estimates) (pathRefused m buffer unfit)
     (provided (eqb (m .phase) 1) (pathRefused m buffer notFound)
     (provided (not (eqb (length states) 0)) (pathRefused m buffer brokenTrail)
     (provided (leb (length states) (length buffer - at)) (pathRefused m buffer shortBuffer)

@@ -1,6 +1,10 @@
 // Refusals before a call does anything: whether the task and the machine fit, and whether the worker may call.
 ghost use mathlib.Core.Path.{_≡_};
-ghost use Rattle.desk.specs.Fits.{fits};
+ghost use mathlib.Core.Bool.{true, _&&_};
+ghost use Prim.Native.Nat.{_≤_};
+ghost use lib.Dec.{eqb};
+ghost use Rattle.checks.specs.Opening.{task, earlyFault};
+ghost use Rattle.desk.specs.Fits.{rowsFit};
 ghost use Rattle.desk.specs.Laws.{callFault};
 ghost use Rattle.desk.specs.Reply.{refused};
 use super::Answer;
@@ -18,41 +22,89 @@ pub fn refused(m: Machine, number: u8) -> Answer
     }
 }
 
-// Conditions 1 to 4 hold of the machine's numbers and the lent slices, and the machine's rows are right.
-pub fn fits(m: Machine, passages: &[u32], estimates: &[u32]) -> bool
-    ensures { λ r. ⌜ r ≡ fits m (now (passages .entry)) (now (estimates .entry)) ⌝ }
+// Conditions 1 to 4 hold of a machine's numbers and the lent slices.
+pub fn task_fits(
+    n: usize,
+    k: usize,
+    start: usize,
+    goal: usize,
+    pull: u16,
+    excess: u16,
+    passages: &[u32],
+    estimates: &[u32],
+) -> bool
+    ensures { λ r. ⌜ r ≡ eqb (earlyFault (task n k start goal pull excess (now (passages .entry)) (now (estimates .entry)))) 0 ⌝ }
 {
-    let n = m.n;
-    let k = m.k;
-    if checks::early_fault(n, k, m.start, m.goal, m.pull, m.excess, passages, estimates) != 0 {
+    checks::early_fault(n, k, start, goal, pull, excess, passages, estimates) == 0
+}
+
+// What a call can change is right: the phase, the marks and labels of the states, and what the workers hold.
+pub fn rows_fit<'a>(
+    n: usize,
+    k: usize,
+    phase: u8,
+    mark: &'a [u8; 256],
+    label: &'a [u32; 256],
+    held: &'a [u16; 32],
+) -> bool
+    requires { ⌜ (n ≤ 256) × (k ≤ 32) ⌝ }
+    ensures { λ r. ⌜ r ≡ rowsFit n k phase (now (mark .entry)) (now (label .entry)) (now (held .entry)) ⌝ }
+{
+    if phase > 2 {
         return false;
     }
-    if m.phase > 2 {
+    if !checks::marks_right(mark, n) {
         return false;
     }
-    if !checks::marks_right(&m.mark, n) {
+    if !checks::labels_right(label, n) {
         return false;
     }
-    if !checks::labels_right(&m.label, n) {
+    if !checks::workers_right(mark, held, n, k) {
         return false;
     }
-    if !checks::workers_right(&m.mark, &m.held, n, k) {
+    checks::held_once(mark, held, n, k)
+}
+
+// Both: whether conditions 1 to 4 hold was looked at before, and is `sound`.
+pub fn fits<'a>(
+    sound: bool,
+    n: usize,
+    k: usize,
+    phase: u8,
+    mark: &'a [u8; 256],
+    label: &'a [u32; 256],
+    held: &'a [u16; 32],
+) -> bool
+    requires { ⌜ (sound ≡ true → (n ≤ 256) × (k ≤ 32)) ⌝ }
+    ensures { λ r. ⌜ r ≡ (sound && rowsFit n k phase (now (mark .entry)) (now (label .entry)) (now (held .entry))) ⌝ }
+{
+    if !sound {
         return false;
     }
-    checks::held_once(&m.mark, &m.held, n, k)
+    rows_fit(n, k, phase, mark, label, held)
 }
 
 // The first of 8, 9 and 10 that applies to a worker's call, or 0.
-pub fn call_fault(m: Machine, passages: &[u32], estimates: &[u32], worker: usize) -> u8
-    ensures { λ r. ⌜ r ≡ callFault m (now (passages .entry)) (now (estimates .entry)) worker ⌝ }
+pub fn call_fault<'a>(
+    sound: bool,
+    n: usize,
+    k: usize,
+    phase: u8,
+    mark: &'a [u8; 256],
+    label: &'a [u32; 256],
+    held: &'a [u16; 32],
+    worker: usize,
+) -> u8
+    requires { ⌜ (sound ≡ true → (n ≤ 256) × (k ≤ 32)) ⌝ }
+    ensures { λ r. ⌜ r ≡ callFault (sound && rowsFit n k phase (now (mark .entry)) (now (label .entry)) (now (held .entry))) k phase worker ⌝ }
 {
-    if !fits(m, passages, estimates) {
+    if !fits(sound, n, k, phase, mark, label, held) {
         return refusals::UNFIT;
     }
-    if worker >= m.k {
+    if worker >= k {
         return refusals::NO_WORKER;
     }
-    if m.phase != 0 {
+    if phase != 0 {
         return refusals::NOT_SEARCHING;
     }
     0

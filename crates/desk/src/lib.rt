@@ -1,5 +1,7 @@
 // The route desk: a machine that deals junction states out to workers and takes them back, one call at a time.
 // The calls are Machine::opening, take, bring, morning and path. Each is defined for every input.
+// A call looks at the task's conditions 1 to 4, which no event changes, and goes on with what it found: a morning looks once for all
+// its events, and `called` serves one event for a caller that looked before.
 mod bring;
 mod coding;
 mod fits;
@@ -44,10 +46,4 @@ pub enum Reply {
 pub struct Answer {
     pub machine: Machine,
     pub reply: Reply,
-}
-
-// A pass over passages that has come so far: the machine, and how many times a label was set or lowered.
-pub struct Swept {
-    pub machine: Machine,
-    pub many: u32,
 }

@@ -5,6 +5,7 @@ ghost use Prim.Native.Nat.{_≤_};
 ghost use lib.ListN.{length};
 ghost use Rattle.laws.specs.Part.{overlaid};
 ghost use Rattle.desk.specs.Reply.{codeOf};
+ghost use Rattle.desk.specs.Fits.{taskFits};
 ghost use Rattle.desk.specs.Calls.{call, replies, after};
 ghost use Rattle.desk.specs.Morning.{eventOf, eventsOf, eventsRight, morningFault, morningOf};
 use super::Answer;
@@ -14,15 +15,17 @@ use super::coding;
 use super::fits;
 use rule::refusals;
 
-// The call that an event asks for: Take where its number is below 65,536, else Bring.
-pub fn called(m: Machine, passages: &[u32], estimates: &[u32], event: u32) -> Answer
+// The call that an event asks for: Take where its number is below 65,536, else Bring. Conditions 1 to 4 were looked at
+// before, once for all events: `sound` says whether they hold.
+pub fn called(m: Machine, sound: bool, passages: &[u32], estimates: &[u32], event: u32) -> Answer
+    requires { ⌜ sound ≡ taskFits m (now passages) (now estimates) ⌝ }
     ensures { λ r. ⌜ r ≡ call (now (passages .entry)) (now (estimates .entry)) m (eventOf event) ⌝ }
 {
     let worker = (event % 65536) as usize;
     if event / 65536 == 0 {
-        return m.take(passages, estimates, worker);
+        return m.take_checked(sound, passages, estimates, worker);
     }
-    m.bring(passages, estimates, worker)
+    m.bring_checked(sound, passages, estimates, worker)
 }
 
 // Whether each number is a Take or a Bring.
@@ -53,18 +56,19 @@ pub fn morning_fault(events: &[u32], places: usize) -> u8
 // All calls in their order, each on the machine last handed back; their replies go to the front of the row.
 pub fn serve(
     machine: Machine,
+    sound: bool,
     passages: &[u32],
     estimates: &[u32],
     events: &[u32],
     row: &mut [u64],
 ) -> Machine
-    requires { ⌜ length (now events) ≤ length (now row) ⌝ }
+    requires { ⌜ (sound ≡ taskFits machine (now passages) (now estimates)) × (length (now events) ≤ length (now row)) ⌝ }
     ensures { λ r. ⌜ r ≡ after (now (passages .entry)) (now (estimates .entry)) machine (eventsOf (now (events .entry))) ⌝ }
     ensures { λ r. ⌜ now (row .exit) ≡ overlaid 0 (map codeOf (replies (now (passages .entry)) (now (estimates .entry)) machine (eventsOf (now (events .entry))))) (now (row .entry)) ⌝ }
 {
     let mut m = machine;
     for i in 0..events.len() {
-        let answer = called(m, passages, estimates, events[i]);
+        let answer = called(m, sound, passages, estimates, events[i]);
         let reply = answer.reply;
         m = answer.machine;
         row[i] = coding::code(reply);
@@ -87,7 +91,17 @@ impl Machine {
         if number != 0 {
             return fits::refused(self, number);
         }
-        let last = serve(self, passages, estimates, events, row);
+        let sound = fits::task_fits(
+            self.n,
+            self.k,
+            self.start,
+            self.goal,
+            self.pull,
+            self.excess,
+            passages,
+            estimates,
+        );
+        let last = serve(self, sound, passages, estimates, events, row);
         Answer {
             machine: last,
             reply: Reply::Done,

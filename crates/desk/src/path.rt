@@ -11,7 +11,25 @@ impl Machine {
     pub fn path(self, passages: &[u32], estimates: &[u32], buffer: &mut [u16], at: usize) -> Answer
         ensures { λ r. ⌜ (r ≡ pathOf self (now (passages .entry)) (now (estimates .entry)) (now (buffer .entry)) at .given) × (now (buffer .exit) ≡ pathOf self (now (passages .entry)) (now (estimates .entry)) (now (buffer .entry)) at .buffer) ⌝ }
     {
-        if !fits::fits(self, passages, estimates) {
+        let sound = fits::task_fits(
+            self.n,
+            self.k,
+            self.start,
+            self.goal,
+            self.pull,
+            self.excess,
+            passages,
+            estimates,
+        );
+        if !fits::fits(
+            sound,
+            self.n,
+            self.k,
+            self.phase,
+            &self.mark,
+            &self.label,
+            &self.held,
+        ) {
             return fits::refused(self, refusals::UNFIT);
         }
         if self.phase != 1 {

@@ -1,9 +1,7 @@
 // Take: a worker asks for a state.
 ghost use mathlib.Core.Path.{_≡_};
-ghost use Prim.Native.Nat.{_<_};
-ghost use Rattle.rule.specs.Laws.{WholeTable};
-ghost use Rattle.desk.specs.Take.{act, takeStep, takeOf};
-ghost use Rattle.desk.specs.Laws.{Placed};
+ghost use Rattle.desk.specs.Fits.{taskFits};
+ghost use Rattle.desk.specs.Take.{takeOf};
 use super::Answer;
 use super::Machine;
 use super::Reply;
@@ -11,64 +9,81 @@ use super::fits;
 use dealing::Decision;
 use rule::refusals;
 
-// What a decided step does to the machine.
-pub fn act(m: Machine, worker: usize, decision: Decision) -> Answer
-    requires { ⌜ Placed decision × (worker < 32) ⌝ }
-    ensures { λ r. ⌜ r ≡ act m worker decision ⌝ }
-{
-    let mut next = m;
-    match decision {
-        Decision::Found(cost) => {
-            next.phase = 1;
-            Answer {
-                machine: next,
-                reply: Reply::Found(cost),
-            }
-        }
-        Decision::NoPath => {
-            next.phase = 2;
-            Answer {
-                machine: next,
-                reply: Reply::NoPath,
-            }
-        }
-        Decision::Deal(s) => {
-            let number = s as u16;
-            next.mark[s] = rule::OUT;
-            next.held[worker] = number;
-            Answer {
-                machine: next,
-                reply: Reply::Took(number),
-            }
-        }
-        Decision::Stuck => fits::refused(m, refusals::NOTHING_OUT),
-        Decision::Wait(s) => Answer {
-            machine: m,
-            reply: Reply::Wait(s as u16),
-        },
-    }
-}
-
-// The five steps, past the refusals.
-pub fn take_step(m: Machine, estimates: &[u32], worker: usize) -> Answer
-    requires { ⌜ WholeTable (now estimates) (m .n) × ((m .goal < m .n) × (worker < 32)) ⌝ }
-    ensures { λ r. ⌜ r ≡ takeStep m (now (estimates .entry)) worker ⌝ }
-{
-    let decision = dealing::decide(&m.mark, &m.label, estimates, m.n, m.excess, m.goal, m.pull);
-    act(m, worker, decision)
-}
-
 impl Machine {
-    pub fn take(self, passages: &[u32], estimates: &[u32], worker: usize) -> Answer
+    // Take, where conditions 1 to 4 were looked at before: `sound` says whether they hold.
+    // The machine is written where it stands, and handed back once: a function of its own for a step would copy it in and out.
+    pub fn take_checked(
+        mut self,
+        sound: bool,
+        passages: &[u32],
+        estimates: &[u32],
+        worker: usize,
+    ) -> Answer
+        requires { ⌜ sound ≡ taskFits self (now passages) (now estimates) ⌝ }
         ensures { λ r. ⌜ r ≡ takeOf self (now (passages .entry)) (now (estimates .entry)) worker ⌝ }
     {
-        let number = fits::call_fault(self, passages, estimates, worker);
+        let number = fits::call_fault(
+            sound,
+            self.n,
+            self.k,
+            self.phase,
+            &self.mark,
+            &self.label,
+            &self.held,
+            worker,
+        );
         if number != 0 {
             return fits::refused(self, number);
         }
         if self.held[worker] != rule::NONE {
             return fits::refused(self, refusals::WRONG_HANDS);
         }
-        take_step(self, estimates, worker)
+        let decision = dealing::decide(
+            &self.mark,
+            &self.label,
+            estimates,
+            self.n,
+            self.excess,
+            self.goal,
+            self.pull,
+        );
+        let reply = match decision {
+            Decision::Found(cost) => {
+                self.phase = 1;
+                Reply::Found(cost)
+            }
+            Decision::NoPath => {
+                self.phase = 2;
+                Reply::NoPath
+            }
+            Decision::Deal(s) => {
+                let number = s as u16;
+                self.mark[s] = rule::OUT;
+                self.held[worker] = number;
+                Reply::Took(number)
+            }
+            Decision::Stuck => Reply::Refused(refusals::NOTHING_OUT),
+            Decision::Wait(s) => Reply::Wait(s as u16),
+        };
+        Answer {
+            machine: self,
+            reply: reply,
+        }
+    }
+
+    pub fn take(self, passages: &[u32], estimates: &[u32], worker: usize) -> Answer
+        ensures { λ r. ⌜ r ≡ takeOf self (now (passages .entry)) (now (estimates .entry)) worker ⌝ }
+    {
+        let sound = fits::task_fits(
+            self.n,
+            self.k,
+            self.start,
+            self.goal,
+            self.pull,
+            self.excess,
+            passages,
+            estimates,
+        );
+        self.take_checked(sound, passages, estimates, worker)
     }
 }

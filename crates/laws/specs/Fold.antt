@@ -20,6 +20,12 @@ pub fold-more : {S : Type 0} (f : ℕ → S → S) (a : S) (i : ℕ) → fold f 
 unfolding fold
 fold-more f a i = rw add-one
 
+-- what no turn changes is at the end as it was at the start
+pub fold-keeps : {S T : Type 0} (f : ℕ → S → S) (g : S → T) → ((i : ℕ) (s : S) → g (f i s) ≡ g s) → (a : S) (n : ℕ) → g (fold f a n) ≡ g a
+unfolding fold
+fold-keeps f g h a zero = refl
+fold-keeps f g h a (suc n) = h n (fold f a n) ∙ fold-keeps f g h a n
+
 -- a state that no turn changes any more is the last one
 pub fold-still : {S : Type 0} (f : ℕ → S → S) (a : S) (i n : ℕ) → i ≤ n → ((j : ℕ) → f j (fold f a i) ≡ fold f a i) → fold f a n ≡ fold f a i
 unfolding fold

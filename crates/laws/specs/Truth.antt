@@ -1,7 +1,7 @@
 -- Truth values: conjunctions taken apart and put together, and the ladder of refusals.
 -- Assumes nothing.
 use mathlib.Core.Path.{_≡_, refl}
-use mathlib.Core.Bool.{Bool, true, false, _&&_, _||_, false≢true}
+use mathlib.Core.Bool.{Bool, true, false, _&&_, _||_, cond, false≢true}
 use mathlib.Core.Logic.{_⊎_, inl, inr}
 use Prim.Native.Nat.{ℕ}
 
@@ -31,6 +31,11 @@ or-either false b e = inr e
 pub or-second : (a b : Bool) → b ≡ true → (a || b) ≡ true
 or-second true b e = refl
 or-second false b e = e
+
+-- what holds of both sides of a choice holds of what is chosen
+pub cond-either : {A : Type 0} (P : A → Type 0) (b : Bool) (first second : A) → P first → P second → P (cond b first second)
+cond-either P true first second p q = p
+cond-either P false first second p q = q
 
 -- "The first that applies is given": what a call comes to, provided that a condition holds; else the refusal beside it.
 abbrev pub provided : {A : Type 0} → Bool → A → A → A

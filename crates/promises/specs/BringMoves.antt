@@ -8,7 +8,7 @@ use Prim.Native.Nat.{ℕ, zero, suc, _+_, _*_, _≤_, _<_}
 use native.Mathlib.Nat.{mul-le-mul-right}
 use native.Mathlib.Decide.{decLe}
 use native.Mathlib.Omega.{arith}
-use lib.ListN.{length-set}
+use lib.ListN.{set, length-set}
 use lib.Seq.{getD-set-same, getD-set-other}
 use lib.Dec.{ltb, eqb}
 use borrow.Author.Tests.{ltb-true, ltb-false, eqb-true, eqb-false}
@@ -20,9 +20,8 @@ use Rattle.argument.specs.Front.{Reached}
 use Rattle.argument.specs.Steps.{at-or}
 use Rattle.argument.specs.Good.{touch, advance, finish}
 use Rattle.desk.specs.declared.Machine.{Machine}
-use Rattle.desk.specs.declared.Swept.{Swept}
-use Rattle.desk.specs.Machine.{markOf, withMark, withHeld, labelOf, taskOf}
-use Rattle.desk.specs.Bring.{swept, labelled, reach, applyPassage, sweepOf}
+use Rattle.desk.specs.Machine.{withMark, withHands, handsOf, markOf, labelOf, taskOf}
+use Rattle.desk.specs.Bring.{Swept, swept, labelled, reach, applyPassage, sweepOf}
 use Rattle.promises.specs.Demand.{graph}
 use Rattle.promises.specs.View.{viaOf, view, between, during, applied-none, applied-same, midway-at, midway-other, Sure, Midway, GoodAt, StepAt, good-on}
 use Rattle.promises.specs.TakeMoves.{seen-in}
@@ -250,7 +249,7 @@ module _ {passages estimates : List ℕ} {m : Machine} (z : Sure passages estima
 
 -- the machine that Bring hands back
 abbrev pub finishedBy : ℕ → ℕ → Machine → Machine
-finishedBy worker p m = withHeld (withMark m p finished) worker none
+finishedBy worker p m = withHands (withMark m p finished) (set (handsOf m) worker none)
 
 module _ {passages estimates : List ℕ} {p l : ℕ} {m : Machine} (z : Passing passages estimates p l (passageCount passages) m) (worker : ℕ) where
   pub finished-now : markOf (finishedBy worker p m) p ≡ 3

@@ -1,18 +1,18 @@
 -- Calls by cases. A worker's call: refused with the machine as it was, or a step of Take, or a Bring of an out state. A morning: refused, or served.
 -- What holds of each case holds of every call.
-use mathlib.Core.Path.{_≡_, refl, sym, subst⁻¹, _∙_}
+use mathlib.Core.Path.{_≡_, refl, sym, ap, subst, subst⁻¹, _∙_}
 use mathlib.Core.Logic.{_≢_}
-use mathlib.Core.Bool.{Bool, true, not}
+use mathlib.Core.Bool.{not}
 use mathlib.Core.List.{List, map}
 use Prim.Native.Nat.{ℕ, zero, suc, _≤_}
 use native.Mathlib.Omega.{arith}
 use lib.ListN.{length}
-use lib.Dec.{ltb, leb, eqb}
-use borrow.Author.Tests.{ltb-true, eqb-true, eqb-false, not-true}
+use lib.Dec.{leb, eqb}
+use borrow.Author.Tests.{eqb-true, eqb-false, not-true}
 use Rattle.laws.specs.Truth.{provided-either}
 use Rattle.laws.specs.Part.{overlaid}
 use Rattle.rule.specs.Marks.{none, out}
-use Rattle.rule.specs.Refusals.{unfit, noWorker, notSearching, wrongHands, nothingOut, shortRow, noEvent}
+use Rattle.rule.specs.Refusals.{nothingOut, shortRow, noEvent}
 use Rattle.checks.specs.Laws.{worker-holds}
 use Rattle.dealing.specs.declared.Decision.{Decision}
 use Rattle.dealing.specs.Decision.{decision}
@@ -20,45 +20,40 @@ use Rattle.desk.specs.declared.Machine.{Machine}
 use Rattle.desk.specs.declared.Reply.the-variants.{Done}
 use Rattle.desk.specs.declared.Answer.{Answer}
 use Rattle.desk.specs.Reply.{answer, refused, codeOf}
-use Rattle.desk.specs.Machine.{markOf, heldBy, boardOf}
-use Rattle.desk.specs.Fits.{fits}
-use Rattle.desk.specs.Admission.{admitted}
+use Rattle.desk.specs.Machine.{handsOf, heldBy, markOf, boardOf}
 use Rattle.desk.specs.Take.{act, takeStep, takeOf}
 use Rattle.desk.specs.Bring.{sweepOf, finish, bringStep, bringOf}
 use Rattle.desk.specs.Calls.{Event, take, bring, call, replies, after}
 use Rattle.desk.specs.Morning.{eventsOf, eventsRight, morningFault, Morning, morningOf}
-use Rattle.desk.specs.Laws.{Admitted, fitting}
+use Rattle.desk.specs.Laws.{Admitted, fitting, admitted-either, sweep-leaves}
 use Rattle.desk.specs.CallLaws.{morning-refused, morning-served}
 use Rattle.promises.specs.Progress.{Chosen, chosen}
 
-module _ (passages estimates : List ℕ) (m : Machine) (P : Answer → Type 0) where
-  admitted-either : (worker : ℕ) (ready : Bool) (given : Answer) → ((number : ℕ) → number ≤ 11 → P (refused m number))
-      → (Admitted m passages estimates worker → ready ≡ true → P given) → P (admitted m passages estimates worker ready given)
-  unfolding admitted
-  admitted-either worker ready given r c =
-      provided-either P (fits m passages estimates) _ _ (r unfit (omega arith)) (λ f.
-      provided-either P (ltb worker (m .k)) _ _ (r noWorker (omega arith)) (λ l.
-      provided-either P (eqb (m .phase) 0) _ _ (r notSearching (omega arith)) (λ p.
-      provided-either P ready _ given (r wrongHands (omega arith)) (λ e.
-      c (record { fit = f; worker-in = ltb-true worker (m .k) l; searching = eqb-true (m .phase) 0 p }) e))))
+-- what a Bring of the state p answers. No passage changes what the workers hold, so that it may as well be read past the last
+abbrev pub brought : Machine → List ℕ → ℕ → ℕ → Answer
+brought m passages worker p = let w = sweepOf m passages p in finish (handsOf (w .machine)) worker p w
 
+brought-is : (m : Machine) (passages : List ℕ) (worker p : ℕ) → brought m passages worker p ≡ finish (handsOf m) worker p (sweepOf m passages p)
+brought-is m passages worker p = ap (λ (held : List ℕ). finish held worker p (sweepOf m passages p)) (sweep-leaves handsOf (λ _ _ _ _. refl) m passages p)
+
+module _ (passages estimates : List ℕ) (m : Machine) (P : Answer → Type 0) where
   -- the state that a worker of a machine that fits holds is out
-  held-out : (worker : ℕ) → Admitted m passages estimates worker → (heldBy m worker ≡ none → ⊥) → markOf m (heldBy m worker) ≡ out
+  held-out : (worker : ℕ) → Admitted m (handsOf m) passages estimates worker → (heldBy (handsOf m) worker ≡ none → ⊥) → markOf m (heldBy (handsOf m) worker) ≡ out
   held-out worker a h =
-      eqb-true (markOf m (heldBy m worker)) out (worker-holds (m .mark) (m .held) (m .n) (m .k) (fitting m passages estimates (a .fit) .workers) worker (a .worker-in) h .1)
+      eqb-true (markOf m (heldBy (handsOf m) worker)) out (worker-holds (m .mark) (m .held) (m .n) (m .k) (fitting m (handsOf m) passages estimates (a .fit) .workers) worker (a .worker-in) h .1)
 
   -- what holds of a refusal, of each step of Take, and of a Bring
   pub call-either : ((number : ℕ) → number ≤ 11 → P (refused m number))
-      → ((worker : ℕ) → Admitted m passages estimates worker → heldBy m worker ≡ none → (d : Decision) → Chosen (m .goal) (m .pull) (boardOf m estimates) d → P (act m worker d))
-      → ((worker : ℕ) → Admitted m passages estimates worker → markOf m (heldBy m worker) ≡ out → P (finish worker (heldBy m worker) (sweepOf m passages (heldBy m worker))))
+      → ((worker : ℕ) → Admitted m (handsOf m) passages estimates worker → heldBy (handsOf m) worker ≡ none → (d : Decision) → Chosen (m .goal) (m .pull) (boardOf m estimates) d → P (act m (handsOf m) worker d))
+      → ((worker : ℕ) → Admitted m (handsOf m) passages estimates worker → markOf m (heldBy (handsOf m) worker) ≡ out → P (brought m passages worker (heldBy (handsOf m) worker)))
       → (e : Event) → P (call passages estimates m e)
   unfolding takeOf takeStep bringOf bringStep
   call-either r t b (take worker) =
-      admitted-either worker (eqb (heldBy m worker) none) (takeStep m estimates worker) r
-      (λ a e. t worker a (eqb-true (heldBy m worker) none e) (decision (m .goal) (m .pull) (boardOf m estimates)) (chosen (m .goal) (m .pull) (boardOf m estimates)))
+      admitted-either m (handsOf m) passages estimates P worker (eqb (heldBy (handsOf m) worker) none) (takeStep m (handsOf m) estimates worker) r
+      (λ a e. t worker a (eqb-true (heldBy (handsOf m) worker) none e) (decision (m .goal) (m .pull) (boardOf m estimates)) (chosen (m .goal) (m .pull) (boardOf m estimates)))
   call-either r t b (bring worker) =
-      admitted-either worker (not (eqb (heldBy m worker) none)) (bringStep m passages worker) r
-      (λ a e. b worker a (held-out worker a (eqb-false (heldBy m worker) none (not-true (eqb (heldBy m worker) none) e))))
+      admitted-either m (handsOf m) passages estimates P worker (not (eqb (heldBy (handsOf m) worker) none)) (bringStep m (handsOf m) passages worker) r
+      (λ a e. subst P (brought-is m passages worker (heldBy (handsOf m) worker)) (b worker a (held-out worker a (eqb-false (heldBy (handsOf m) worker) none (not-true (eqb (heldBy (handsOf m) worker) none) e)))))
 
 -- a morning is refused with 16 or 18, if at all
 morning-never : (events : List ℕ) (places : ℕ) → morningFault events places ≢ nothingOut

@@ -16,7 +16,7 @@ use Rattle.dealing.specs.Board.{key}
 use Rattle.desk.specs.declared.Machine.{Machine}
 use Rattle.desk.specs.declared.Reply.{Reply}
 use Rattle.desk.specs.declared.Reply.the-variants.{Opened, Found, NoPath, Read, Refused}
-use Rattle.desk.specs.Machine.{markOf, labelOf, boardOf}
+use Rattle.desk.specs.Machine.{handsOf, markOf, labelOf, boardOf}
 use Rattle.desk.specs.Reply.{answer, took, when, replyOf}
 use Rattle.desk.specs.Fits.{fits}
 use Rattle.desk.specs.Opening.{openingOf}
@@ -75,7 +75,7 @@ pub record Demand3 (t : Task) : Type 0 where
 -- and what goes with it
 pub record Kept (t : Task) : Type 0 where
   -- 8 never comes for a machine that was reached
-  pub fitting : (day : List Call) → fits (reached t day) (t .passages) (t .estimates) ≡ true
+  pub fitting : (day : List Call) → fits (reached t day) (handsOf (reached t day)) (t .passages) (t .estimates) ≡ true
   -- nor does 12
   pub moving : (day : List Call) → Said t day (Refused nothingOut) → ⊥
   -- the goal is never dealt, and the start stays at label 0

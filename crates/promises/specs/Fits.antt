@@ -25,11 +25,10 @@ use Rattle.dealing.specs.Board.{safe}
 use Rattle.dealing.specs.declared.Decision.{Decision}
 use Rattle.dealing.specs.declared.Decision.the-variants.{Found, NoPath, Deal, Stuck, Wait}
 use Rattle.desk.specs.declared.Machine.{Machine}
-use Rattle.desk.specs.Machine.{markOf, labelOf, heldBy, taskOf, boardOf}
-use Rattle.desk.specs.Fits.{fits}
+use Rattle.desk.specs.Machine.{handsOf, heldBy, markOf, labelOf, taskOf, boardOf}
+use Rattle.desk.specs.Fits.{rowsFit, fits}
 use Rattle.desk.specs.Opening.{openedMachine}
 use Rattle.desk.specs.Take.{dealt, act}
-use Rattle.desk.specs.Bring.{sweepOf, finish}
 use Rattle.desk.specs.Calls.{Event, call}
 use Rattle.promises.specs.Demand.{graph}
 use Rattle.promises.specs.Accepted.{Sound}
@@ -37,7 +36,7 @@ use Rattle.promises.specs.View.{between, applied-none, Sure}
 use Rattle.promises.specs.Progress.{safe-is-open, Chosen}
 use Rattle.promises.specs.TakeMoves.{dealt-now, dealt-else, act-sure}
 use Rattle.promises.specs.BringMoves.{lowered, Passing, lowered-now, lowered-else, label-else, free, Keeps, sweep-keeps, finishedBy, finished-now, finished-else, finished-sure}
-use Rattle.promises.specs.Calls.{call-either}
+use Rattle.promises.specs.Calls.{brought, call-either}
 use Rattle.promises.specs.Holding.{Holding, holding-take, holding-give, holding-same}
 
 -- the invariant with what 8 asks of the machine besides; unseen states have label 0
@@ -45,7 +44,7 @@ pub record Steady (passages estimates : List ℕ) (m : Machine) : Type 0 where
   pub sure : Sure passages estimates m
   pub phase : m .phase ≤ 2
   pub blank : (s : ℕ) → markOf m s ≡ 0 → labelOf m s ≡ 0
-  pub hold : Holding (m .n) (m .k) none (heldBy m) (markOf m)
+  pub hold : Holding (m .n) (m .k) none (heldBy (handsOf m)) (markOf m)
 
 zeros : (n x : ℕ) → getD {A = ℕ} (replicate n 0) x 0 ≡ 0
 zeros zero x = refl
@@ -101,16 +100,16 @@ module _ (t : Task) (a : Sound t) where
   }
 
 -- Take keeps it
-module _ {passages estimates : List ℕ} {m : Machine} (z : Steady passages estimates m) (worker : ℕ) (l : worker < m .k) (e : heldBy m worker ≡ none) where
-  deal-held : (s : ℕ) → safe (boardOf m estimates) s ≡ true → Holding (m .n) (m .k) none (heldBy (dealt m worker s)) (markOf (dealt m worker s))
+module _ {passages estimates : List ℕ} {m : Machine} (z : Steady passages estimates m) (worker : ℕ) (l : worker < m .k) (e : heldBy (handsOf m) worker ≡ none) where
+  deal-held : (s : ℕ) → safe (boardOf m estimates) s ≡ true → Holding (m .n) (m .k) none (heldBy (handsOf (dealt m (handsOf m) worker s))) (markOf (dealt m (handsOf m) worker s))
   deal-held s k =
       let is : markOf m s ≡ 1 = safe-is-open (boardOf m estimates) s k in
-      let mine : heldBy (dealt m worker s) worker ≡ s = getD-set-same (m .held) worker s 0 (omega (arith, z .sure .sized .workers, z .sure .task .right .workers)) in
-      holding-take (m .n) (m .k) none (heldBy m) (markOf m) (heldBy (dealt m worker s)) (markOf (dealt m worker s)) (z .hold) worker s l
+      let mine : heldBy (handsOf (dealt m (handsOf m) worker s)) worker ≡ s = getD-set-same (m .held) worker s 0 (omega (arith, z .sure .sized .workers, z .sure .task .right .workers)) in
+      holding-take (m .n) (m .k) none (heldBy (handsOf m)) (markOf m) (heldBy (handsOf (dealt m (handsOf m) worker s))) (markOf (dealt m (handsOf m) worker s)) (z .hold) worker s l
       (λ x d. getD-set-other (m .held) worker x s 0 d) e (z .sure .good .frontier .inside s (omega arith)) (omega arith) mine
       (dealt-now (z .sure) worker s k) (dealt-else (z .sure) worker s k)
 
-  act-steady : (d : Decision) → Chosen (m .goal) (m .pull) (boardOf m estimates) d → Steady passages estimates (act m worker d .machine)
+  act-steady : (d : Decision) → Chosen (m .goal) (m .pull) (boardOf m estimates) d → Steady passages estimates (act m (handsOf m) worker d .machine)
   act-steady (Found cost) k = record { sure = act-sure (z .sure) worker (Found cost) k; phase = omega arith; blank = z .blank; hold = z .hold }
   act-steady NoPath k = record { sure = act-sure (z .sure) worker NoPath k; phase = omega arith; blank = z .blank; hold = z .hold }
   act-steady (Deal s) k = record {
@@ -125,10 +124,10 @@ module _ {passages estimates : List ℕ} {m : Machine} (z : Steady passages esti
 -- what a pass over the state p that the worker holds keeps besides the invariant
 record Carrying (worker p : ℕ) (m : Machine) : Type 0 where
   inside : worker < m .k
-  mine : heldBy m worker ≡ p
+  mine : heldBy (handsOf m) worker ≡ p
   phase : m .phase ≤ 2
   blank : (s : ℕ) → markOf m s ≡ 0 → labelOf m s ≡ 0
-  hold : Holding (m .n) (m .k) none (heldBy m) (markOf m)
+  hold : Holding (m .n) (m .k) none (heldBy (handsOf m)) (markOf m)
 
 carrying : (passages estimates : List ℕ) (worker p l : ℕ) → Keeps passages estimates p l (Carrying worker p)
 carrying passages estimates worker p l i m z j from e c =
@@ -138,7 +137,7 @@ carrying passages estimates worker p l i m z j from e c =
       mine = c .mine;
       phase = c .phase;
       blank = at-or (far passages i) (λ k. absurd (omega arith)) (λ x d k. label-else z j from e x d ∙ c .blank x (sym (lowered-else z j from e x d) ∙ k));
-      hold = holding-same (m .n) (m .k) none (heldBy m) (markOf m) (markOf (lowered passages l i m)) (c .hold)
+      hold = holding-same (m .n) (m .k) none (heldBy (handsOf m)) (markOf m) (markOf (lowered passages l i m)) (c .hold)
           (at-or (far passages i) (λ k. absurd (omega arith), λ k. absurd (omega (arith, free z j from e)))
           (λ x d. (λ k. sym (lowered-else z j from e x d) ∙ k, λ k. lowered-else z j from e x d ∙ k)));
     }
@@ -148,21 +147,21 @@ given-back : {passages estimates : List ℕ} {p l : ℕ} {m : Machine} (worker :
     → Steady passages estimates (finishedBy worker p m)
 given-back {p = p} {m = m} worker z c =
     let now : markOf (finishedBy worker p m) p ≡ 3 = finished-now z worker in
-    let empty : heldBy (finishedBy worker p m) worker ≡ none =
+    let empty : heldBy (handsOf (finishedBy worker p m)) worker ≡ none =
     getD-set-same (m .held) worker none 0 (omega (arith, c .inside, z .sure .sized .workers, z .sure .task .right .workers)) in
     record {
       sure = finished-sure z worker;
       phase = c .phase;
       blank = at-or p (λ k. absurd (omega arith)) (λ x d k. c .blank x (sym (finished-else z worker x d) ∙ k));
-      hold = holding-give (m .n) (m .k) none (heldBy m) (markOf m) (heldBy (finishedBy worker p m)) (markOf (finishedBy worker p m)) (c .hold) worker p (c .inside)
+      hold = holding-give (m .n) (m .k) none (heldBy (handsOf m)) (markOf m) (heldBy (handsOf (finishedBy worker p m))) (markOf (finishedBy worker p m)) (c .hold) worker p (c .inside)
           (λ x d. getD-set-other (m .held) worker x none 0 d) (c .mine) (z .out) empty (omega arith) (finished-else z worker);
     }
 
 module _ {passages estimates : List ℕ} {m : Machine} (z : Steady passages estimates m) where
-  bring-steady : (worker : ℕ) → worker < m .k → markOf m (heldBy m worker) ≡ 2
-      → Steady passages estimates (finish worker (heldBy m worker) (sweepOf m passages (heldBy m worker)) .machine)
+  bring-steady : (worker : ℕ) → worker < m .k → markOf m (heldBy (handsOf m) worker) ≡ 2
+      → Steady passages estimates (brought m passages worker (heldBy (handsOf m) worker) .machine)
   bring-steady worker l o =
-      let p : ℕ = heldBy m worker in
+      let p : ℕ = heldBy (handsOf m) worker in
       let (passed, carried) = sweep-keeps (z .sure) p o (Carrying worker p) (carrying passages estimates worker p (labelOf m p))
       (record { inside = l; mine = refl; phase = z .phase; blank = z .blank; hold = z .hold }) in
       given-back worker passed carried
@@ -191,8 +190,8 @@ module _ {passages estimates : List ℕ} {m : Machine} (z : Steady passages esti
           let cheap : labelOf m s ≤ k * 1000000 = chain-cost (graph (taskOf m passages estimates)) (m .start) (between passages m) 1000000 (z .sure .task .costs) s k c in
           omega (arith, short k d f (decLe 2 (markOf m s)))
 
-  pub steady-fits : fits m passages estimates ≡ true
-  unfolding fits marksRight labelsRight workersRight holders heldOnce
+  pub steady-fits : fits m (handsOf m) passages estimates ≡ true
+  unfolding fits rowsFit marksRight labelsRight workersRight holders heldOnce
   steady-fits =
       and-both (eq-eqb (earlyFault (taskOf m passages estimates)) 0 (z .sure .task .early))
       (and-both (le-leb (m .phase) 2 (z .phase))
@@ -201,10 +200,10 @@ module _ {passages estimates : List ℕ} {m : Machine} (z : Steady passages esti
       (and-both (all-of (λ w. workerRight (m .mark) (m .n) (getD (m .held) w 0)) (m .k) (λ w l. worker w (z .hold .own w l)))
       (all-of (heldRight (m .mark) (m .held) (m .k)) (m .n) (λ s l. state s (ℕ-discrete (markOf m s) 2)))))))
     where
-      worker : (w : ℕ) → (heldBy m w ≡ none) ⊎ ((heldBy m w < m .n) × (markOf m (heldBy m w) ≡ 2)) → workerRight (m .mark) (m .n) (heldBy m w) ≡ true
-      worker w (inl e) = rw (eq-eqb (heldBy m w) none e)
-      worker w (inr (b, e)) = rw (ne-eqb (heldBy m w) none (omega (arith, z .hold .room)), lt-ltb (heldBy m w) (m .n) b, eq-eqb (markOf m (heldBy m w)) out e)
+      worker : (w : ℕ) → (heldBy (handsOf m) w ≡ none) ⊎ ((heldBy (handsOf m) w < m .n) × (markOf m (heldBy (handsOf m) w) ≡ 2)) → workerRight (m .mark) (m .n) (heldBy (handsOf m) w) ≡ true
+      worker w (inl e) = rw (eq-eqb (heldBy (handsOf m) w) none e)
+      worker w (inr (b, e)) = rw (ne-eqb (heldBy (handsOf m) w) none (omega (arith, z .hold .room)), lt-ltb (heldBy (handsOf m) w) (m .n) b, eq-eqb (markOf m (heldBy (handsOf m) w)) out e)
 
       state : (s : ℕ) → Dec (markOf m s ≡ 2) → heldRight (m .mark) (m .held) (m .k) s ≡ true
-      state s (yes e) = rw (eq-eqb (markOf m s) out e, eq-eqb (count (λ w. eqb (heldBy m w) s) (m .k)) 1 (z .hold .once s e))
+      state s (yes e) = rw (eq-eqb (markOf m s) out e, eq-eqb (count (λ w. eqb (heldBy (handsOf m) w) s) (m .k)) 1 (z .hold .once s e))
       state s (no d) = rw (ne-eqb (markOf m s) out d)

@@ -1,30 +1,26 @@
 -- A morning is its calls made singly: each reply comes back from its number in the row, since no call replies with a number above 32 bits.
 use mathlib.Core.Path.{_≡_, refl, subst⁻¹, _∙_}
-use mathlib.Core.Bool.{Bool, true, false, _&&_, cond}
 use mathlib.Core.List.{List, [], _∷_, map}
 use Prim.Native.Nat.{ℕ, zero, suc, _+_, _≤_, _<_}
 use native.Mathlib.Nat.{zero-add}
 use native.Mathlib.Omega.{arith}
-use lib.ListN.{length, getD, take, drop, length-map}
+use lib.ListN.{length, take, drop, length-map}
 use lib.Seq.{take-at, drop-at}
-use lib.Dec.{eqb}
 use Rattle.laws.specs.Fold.{fold}
 use Rattle.laws.specs.Part.{overlaid}
-use Rattle.rule.specs.Task.{passageCount, near, far, cost, isClear}
-use Rattle.rule.specs.Rule.{lowers}
+use Rattle.rule.specs.Task.{passageCount}
 use Rattle.checks.specs.Laws.{label-low}
 use Rattle.dealing.specs.declared.Decision.{Decision}
 use Rattle.dealing.specs.declared.Decision.the-variants.{Found, NoPath, Deal, Stuck, Wait}
 use Rattle.desk.specs.declared.Machine.{Machine}
-use Rattle.desk.specs.declared.Swept.{Swept}
 use Rattle.desk.specs.declared.Reply.the-variants.{Done}
-use Rattle.desk.specs.Machine.{labelOf, heldBy, boardOf}
+use Rattle.desk.specs.Machine.{handsOf, heldBy, labelOf, boardOf}
 use Rattle.desk.specs.Reply.{valueOf, codeOf, replyOf}
 use Rattle.desk.specs.Take.{act}
-use Rattle.desk.specs.Bring.{swept, labelled, applyPassage, sweepOf}
+use Rattle.desk.specs.Bring.{Swept, swept, applyPassage, sweepOf}
 use Rattle.desk.specs.Calls.{Event, call, answers, replies}
 use Rattle.desk.specs.Morning.{eventsOf, morningOf}
-use Rattle.desk.specs.Laws.{Admitted, fitting}
+use Rattle.desk.specs.Laws.{Admitted, fitting, apply-either}
 use Rattle.desk.specs.CallLaws.{replies-length, code-back}
 use Rattle.promises.specs.Demand.{WaitsFor, AsSingly}
 use Rattle.promises.specs.Progress.{Chosen}
@@ -32,20 +28,12 @@ use Rattle.promises.specs.Calls.{call-either, morning-either}
 use Rattle.promises.specs.Waiting.{wait-right}
 
 -- going over the passages sets at most one label for each
-module _ (passages : List ℕ) (state label : ℕ) where
-  apply-many : (i : ℕ) (w : Swept) → applyPassage passages state label i w .many ≤ w .many + 1
-  unfolding applyPassage
-  apply-many i w = go (eqb (near passages i) state && isClear passages i) (lowers (getD (w .machine .mark) (far passages i) 0) (labelOf (w .machine) (far passages i)) (label + cost passages i))
-    where
-      go : (t u : Bool) → cond t (cond u (swept (labelled (w .machine) (far passages i) (label + cost passages i) i) (w .many + 1)) w) w .many ≤ w .many + 1
-      go true true = omega arith
-      go true false = omega arith
-      go false u = omega arith
-
-  fold-many : (w : Swept) (n : ℕ) → fold (applyPassage passages state label) w n .many ≤ w .many + n
-  unfolding fold
-  fold-many w zero = omega arith
-  fold-many w (suc n) = omega (arith, apply-many n (fold (applyPassage passages state label) w n), fold-many w n)
+fold-many : (passages : List ℕ) (state label : ℕ) (w : Swept) (n : ℕ) → fold (applyPassage passages state label) w n .many ≤ w .many + n
+unfolding fold
+fold-many passages state label w zero = omega arith
+fold-many passages state label w (suc n) =
+    let v : Swept = fold (applyPassage passages state label) w n in
+    omega (arith, apply-either (λ x. x .many ≤ v .many + 1) passages state label n v (omega arith) (omega arith), fold-many passages state label w n)
 
 sweep-many : (m : Machine) (passages : List ℕ) (s : ℕ) → sweepOf m passages s .many ≤ passageCount passages
 unfolding sweepOf
@@ -53,23 +41,23 @@ sweep-many m passages s = omega (arith, fold-many passages s (labelOf m s) (swep
 
 -- what a call replies has at most 32 bits
 module _ (passages estimates : List ℕ) (m : Machine) where
-  act-small : (worker : ℕ) → Admitted m passages estimates worker → (d : Decision) → Chosen (m .goal) (m .pull) (boardOf m estimates) d → valueOf (act m worker d .reply) < 4294967296
+  act-small : (worker : ℕ) → Admitted m (handsOf m) passages estimates worker → (d : Decision) → Chosen (m .goal) (m .pull) (boardOf m estimates) d → valueOf (act m (handsOf m) worker d .reply) < 4294967296
   act-small worker a (Found c) k =
-      let f = fitting m passages estimates (a .fit) in
+      let f = fitting m (handsOf m) passages estimates (a .fit) in
       omega (arith, k .1, label-low (m .label) (m .n) (f .labels) (m .goal) (f .task .goal-in))
   act-small worker a NoPath k = omega arith
-  act-small worker a (Deal s) k = omega (arith, k .2, fitting m passages estimates (a .fit) .task .states)
+  act-small worker a (Deal s) k = omega (arith, k .2, fitting m (handsOf m) passages estimates (a .fit) .task .states)
   act-small worker a Stuck k = absurd k
   act-small worker a (Wait s) k =
       let w : WaitsFor m estimates s = subst⁻¹ (WaitsFor m estimates) (k .2) (wait-right m estimates (k .0) (k .1)) in
-      omega (arith, w .state, fitting m passages estimates (a .fit) .task .states)
+      omega (arith, w .state, fitting m (handsOf m) passages estimates (a .fit) .task .states)
 
   reply-small : (e : Event) → valueOf (call passages estimates m e .reply) < 4294967296
   reply-small =
       call-either passages estimates m (λ a. valueOf (a .reply) < 4294967296)
       (λ number l. omega arith)
       (λ worker a e d k. act-small worker a d k)
-      (λ worker a o. omega (arith, sweep-many m passages (heldBy m worker), fitting m passages estimates (a .fit) .task .few))
+      (λ worker a o. omega (arith, sweep-many m passages (heldBy (handsOf m) worker), fitting m (handsOf m) passages estimates (a .fit) .task .few))
 
 -- so the replies come back from their numbers
 pub replies-back : (passages estimates : List ℕ) (m : Machine) (es : List Event) → map replyOf (map codeOf (replies passages estimates m es)) ≡ replies passages estimates m es

@@ -13,16 +13,16 @@ use Rattle.dealing.specs.declared.Decision.{Decision}
 use Rattle.dealing.specs.declared.Decision.the-variants.{Found, NoPath, Deal, Stuck, Wait}
 use Rattle.desk.specs.declared.Machine.{Machine}
 use Rattle.desk.specs.declared.Answer.{Answer}
-use Rattle.desk.specs.Machine.{markOf, labelOf, heldBy, boardOf}
+use Rattle.desk.specs.Machine.{handsOf, heldBy, markOf, labelOf, boardOf}
 use Rattle.desk.specs.Take.{dealt, act}
-use Rattle.desk.specs.Bring.{sweepOf, finish}
+use Rattle.desk.specs.Bring.{sweepOf}
 use Rattle.desk.specs.Calls.{Event, call}
 use Rattle.promises.specs.Demand.{deals}
 use Rattle.promises.specs.View.{Sure}
 use Rattle.promises.specs.Progress.{safe-is-open, Chosen}
 use Rattle.promises.specs.TakeMoves.{dealt-now, dealt-else}
 use Rattle.promises.specs.BringMoves.{Passing, lowered-else, free, Keeps, sweep-keeps, finishedBy, finished-now, finished-else}
-use Rattle.promises.specs.Calls.{call-either}
+use Rattle.promises.specs.Calls.{brought, call-either}
 
 -- 1 of a state dealt before, 0 of every other
 abbrev pub gone : Machine → ℕ → ℕ
@@ -46,14 +46,14 @@ abbrev Once : Machine → ℕ → Answer → Type 0
 Once m s a = deals s (a .reply) + gone m s ≤ gone (a .machine) s
 
 module _ {passages estimates : List ℕ} {m : Machine} (z : Sure passages estimates m) (s : ℕ) where
-  act-once : (worker : ℕ) (d : Decision) → Chosen (m .goal) (m .pull) (boardOf m estimates) d → Once m s (act m worker d)
+  act-once : (worker : ℕ) (d : Decision) → Chosen (m .goal) (m .pull) (boardOf m estimates) d → Once m s (act m (handsOf m) worker d)
   act-once worker (Found cost) k = omega arith
   act-once worker NoPath k = omega arith
   act-once worker (Deal x) k =
       let is : markOf m x ≡ 1 = safe-is-open (boardOf m estimates) x (k .0) in
-      let now : markOf (dealt m worker x) x ≡ 2 = dealt-now z worker x (k .0) in
-      at-or x {P = λ y. Once m y (act m worker (Deal x))}
-      (rw (eq-eqb x x refl) (omega (arith, gone-no m x (omega arith), gone-yes (dealt m worker x) x (omega arith))))
+      let now : markOf (dealt m (handsOf m) worker x) x ≡ 2 = dealt-now z worker x (k .0) in
+      at-or x {P = λ y. Once m y (act m (handsOf m) worker (Deal x))}
+      (rw (eq-eqb x x refl) (omega (arith, gone-no m x (omega arith), gone-yes (dealt m (handsOf m) worker x) x (omega arith))))
       (λ y d. rw (ne-eqb x y (λ q. d (sym q)), dealt-else z worker x (k .0) y d) (omega arith))
       s
   act-once worker Stuck k = omega arith
@@ -74,11 +74,11 @@ module _ {passages estimates : List ℕ} {m : Machine} (z : Sure passages estima
       at-or p {P = λ x. 2 ≤ markOf m′ x → 2 ≤ markOf (finishedBy worker p m′) x} (λ _. omega (arith, finished-now y worker))
       (λ x d w. omega (arith, finished-else y worker x d)) s (f k)
 
-  bring-once : (worker p : ℕ) → markOf m p ≡ 2 → Once m s (finish worker p (sweepOf m passages p))
+  bring-once : (worker p : ℕ) → markOf m p ≡ 2 → Once m s (brought m passages worker p)
   bring-once worker p o =
       let m′ : Machine = sweepOf m passages p .machine in
       let (passed, stays) = sweep-keeps z p o Stays (passage-stays p (labelOf m p)) (λ l. l) in
       omega (arith, gone-stays m (finishedBy worker p m′) s (finish-stays worker p (labelOf m p) m′ passed stays))
 
   pub call-once : (e : Event) → Once m s (call passages estimates m e)
-  call-once = call-either passages estimates m (Once m s) (λ number l. omega arith) (λ worker a e d k. act-once worker d k) (λ worker a o. bring-once worker (heldBy m worker) o)
+  call-once = call-either passages estimates m (Once m s) (λ number l. omega arith) (λ worker a e d k. act-once worker d k) (λ worker a o. bring-once worker (heldBy (handsOf m) worker) o)

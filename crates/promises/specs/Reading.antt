@@ -19,7 +19,7 @@ use Rattle.trail.specs.Trail.{isHome, homeAt, isLinked, linkedAt, goBack, path}
 use Rattle.trail.specs.Laws.{back-home, back-linked, path-within}
 use Rattle.desk.specs.declared.Machine.{Machine}
 use Rattle.desk.specs.declared.Reply.the-variants.{Read}
-use Rattle.desk.specs.Machine.{labelOf, taskOf, trailOf}
+use Rattle.desk.specs.Machine.{labelOf, taskOf, trailOf, handsOf}
 use Rattle.desk.specs.Reply.{answer}
 use Rattle.desk.specs.Fits.{fits}
 use Rattle.desk.specs.Path.{pathOf}
@@ -85,7 +85,7 @@ pub record Readable (passages estimates : List ℕ) (m : Machine) : Type 0 where
       → pathOf m passages estimates buffer at
       ≡ record { given = answer m (Read (length (along (taskOf m passages estimates) way))); buffer = overlaid at (along (taskOf m passages estimates) way) buffer }
 
-pub readable : (passages estimates : List ℕ) (m : Machine) (places : ℕ → ℕ) (k : ℕ) → fits m passages estimates ≡ true → m .phase ≡ 1
+pub readable : (passages estimates : List ℕ) (m : Machine) (places : ℕ → ℕ) (k : ℕ) → fits m (handsOf m) passages estimates ≡ true → m .phase ≡ 1
     → Chain (graph (taskOf m passages estimates)) (m .start) (view m places) (m .goal) k → k < m .n → Readable passages estimates m
 readable passages estimates m places k fit phase c l =
     let w : Way passages estimates m places (m .goal) (m .n) [] = chain-way passages estimates m places (m .n) (m .goal) k [] c l refl in

@@ -16,7 +16,7 @@ use Rattle.dealing.specs.declared.Decision.the-variants.{Found as FoundAt, NoPa
 use Rattle.desk.specs.declared.Machine.{Machine}
 use Rattle.desk.specs.declared.Reply.{Reply}
 use Rattle.desk.specs.declared.Reply.the-variants.{Opened, Took, Brought, Found, NoPath, Wait, Read, Refused, Done}
-use Rattle.desk.specs.Machine.{markOf, withPhase, labelOf, taskOf, boardOf}
+use Rattle.desk.specs.Machine.{markOf, withPhase, labelOf, taskOf, boardOf, handsOf}
 use Rattle.desk.specs.Take.{act}
 use Rattle.desk.specs.Calls.{Event, call}
 use Rattle.promises.specs.Demand.{graph, IsRoute, routeCost, PathRight}
@@ -88,8 +88,8 @@ module _ {passages estimates : List ℕ} {m : Machine} (z : Steady passages esti
       (λ x l d. true≢false (sym (live-is (markOf m x) l d (z .sure .marks x)) ∙ k x (z .sure .good .frontier .inside x l)))
       (costOf (graph t) way) (walk-route (graph t) (m .start) way (m .goal) w)
 
-  act-says : (worker : ℕ) (d : Decision) → Chosen (m .goal) (m .pull) (boardOf m estimates) d → Steady passages estimates (act m worker d .machine)
-      → Says t (act m worker d .machine) (act m worker d .reply)
+  act-says : (worker : ℕ) (d : Decision) → Chosen (m .goal) (m .pull) (boardOf m estimates) d → Steady passages estimates (act m (handsOf m) worker d .machine)
+      → Says t (act m (handsOf m) worker d .machine) (act m (handsOf m) worker d .reply)
   act-says worker (FoundAt cost) k y = (refl, subst⁻¹ (PathRight t (withPhase m 1)) (k .1) (found-right (k .0) y))
   act-says worker NoPathLeft k y = none-right k
   act-says worker (Deal s) k y = tt

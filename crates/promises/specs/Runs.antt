@@ -8,21 +8,18 @@ use native.Mathlib.Omega.{arith}
 use lib.ListN.{length}
 use Rattle.rule.specs.Refusals.{nothingOut}
 use Rattle.checks.specs.Opening.{Task}
-use Rattle.dealing.specs.declared.Decision.{Decision}
-use Rattle.dealing.specs.declared.Decision.the-variants.{Found, NoPath, Deal, Stuck, Wait}
 use Rattle.desk.specs.declared.Machine.{Machine}
 use Rattle.desk.specs.declared.Reply.{Reply}
 use Rattle.desk.specs.declared.Reply.the-variants.{Read, Refused, Done}
 use Rattle.desk.specs.declared.Answer.{Answer}
-use Rattle.desk.specs.Machine.{heldBy, taskOf}
+use Rattle.desk.specs.Machine.{taskOf}
 use Rattle.desk.specs.Reply.{answer}
-use Rattle.desk.specs.Take.{act}
 use Rattle.desk.specs.Calls.{Event, call, answers, replies, after}
 use Rattle.desk.specs.Morning.{eventsOf}
 use Rattle.promises.specs.Day.{Call, single, morning, reading, answerTo, inRow, repliesTo, reachedFrom, saidFrom}
 use Rattle.promises.specs.Demand.{deals, timesDealt}
-use Rattle.promises.specs.BringMoves.{sweep-keeps}
 use Rattle.desk.specs.Laws.{path-either}
+use Rattle.desk.specs.CallLaws.{call-task}
 use Rattle.promises.specs.Calls.{call-either, morning-either}
 use Rattle.promises.specs.Fits.{Steady, call-steady}
 use Rattle.promises.specs.Once.{gone, call-once}
@@ -84,20 +81,6 @@ module _ {t : Task} where
 
 -- a worker's call
 module _ (passages estimates : List ℕ) where
-  -- it leaves n, k, start, goal, W and E as they are
-  act-task : (m : Machine) (worker : ℕ) (d : Decision) → taskOf (act m worker d .machine) passages estimates ≡ taskOf m passages estimates
-  act-task m worker (Found cost) = refl
-  act-task m worker NoPath = refl
-  act-task m worker (Deal s) = refl
-  act-task m worker Stuck = refl
-  act-task m worker (Wait s) = refl
-
-  call-task : {m : Machine} → Steady passages estimates m → (e : Event) → taskOf (call passages estimates m e .machine) passages estimates ≡ taskOf m passages estimates
-  call-task {m} z =
-      call-either passages estimates m (λ a. taskOf (a .machine) passages estimates ≡ taskOf m passages estimates) (λ number l. refl)
-      (λ worker a e d k. act-task m worker d)
-      (λ worker a o. sweep-keeps (z .sure) (heldBy m worker) o (λ m′. taskOf m′ passages estimates ≡ taskOf m passages estimates) (λ i m′ y j f e q. q) refl .1)
-
   -- with phase 1 it is refused, and hands the machine back as it came
   call-still : (m : Machine) → m .phase ≡ 1 → (e : Event) → call passages estimates m e .machine ≡ m
   call-still m p =
@@ -110,7 +93,7 @@ module _ {t : Task} where
   event-run : {m : Machine} → Standing t m → (e : Event) → Run t m (call (t .passages) (t .estimates) m e .machine) (call (t .passages) (t .estimates) m e .reply ∷ [])
   event-run {m} z e =
       let a : Answer = call (t .passages) (t .estimates) m e in
-      run-one a (record { steady = call-steady (z .steady) e; task = call-task (t .passages) (t .estimates) (z .steady) e ∙ z .task }) (λ s. call-once (z .steady .sure) s e)
+      run-one a (record { steady = call-steady (z .steady) e; task = call-task (t .passages) (t .estimates) m e ∙ z .task }) (λ s. call-once (z .steady .sure) s e)
       (subst (λ (u : Task). Says u (a .machine) (a .reply)) (z .task) (call-says (z .steady) e)) (λ p. call-still (t .passages) (t .estimates) m p e)
 
   events-run : {m : Machine} → Standing t m → (es : List Event) → Run t m (after (t .passages) (t .estimates) m es) (replies (t .passages) (t .estimates) m es)

@@ -19,7 +19,7 @@ use Rattle.dealing.specs.Board.{safe}
 use Rattle.dealing.specs.declared.Decision.{Decision}
 use Rattle.dealing.specs.declared.Decision.the-variants.{Found, NoPath, Deal, Stuck, Wait}
 use Rattle.desk.specs.declared.Machine.{Machine}
-use Rattle.desk.specs.Machine.{markOf, withPhase, labelOf, boardOf}
+use Rattle.desk.specs.Machine.{markOf, withPhase, labelOf, boardOf, handsOf}
 use Rattle.desk.specs.Take.{dealt, act}
 use Rattle.promises.specs.View.{between, applied-none, applied-same, SureAt, Sure, StepAt, good-on}
 use Rattle.promises.specs.Progress.{safe-is-open, safe-is-free, Chosen}
@@ -44,16 +44,16 @@ module _ {passages estimates : List ℕ} {m : Machine} (z : Sure passages estima
 
   module _ (worker s : ℕ) (e : safe (boardOf m estimates) s ≡ true) where
     -- the state that is dealt is out, and every other mark stays
-    pub dealt-now : markOf (dealt m worker s) s ≡ 2
+    pub dealt-now : markOf (dealt m (handsOf m) worker s) s ≡ 2
     dealt-now = getD-set-same (m .mark) s out 0 (omega (arith, seen-in z s (omega (arith, safe-is-open (boardOf m estimates) s e)), z .sized .marks))
 
-    pub dealt-else : (x : ℕ) → x ≢ s → markOf (dealt m worker s) x ≡ markOf m x
+    pub dealt-else : (x : ℕ) → x ≢ s → markOf (dealt m (handsOf m) worker s) x ≡ markOf m x
     dealt-else x d = getD-set-other (m .mark) s x out 0 d
 
-    deal-step : s ≢ m .goal → StepAt passages estimates m (between passages m) (between passages (dealt m worker s))
+    deal-step : s ≢ m .goal → StepAt passages estimates m (between passages m) (between passages (dealt m (handsOf m) worker s))
     deal-step u =
         let is : markOf m s ≡ 1 = safe-is-open (boardOf m estimates) s e in
-        let now : markOf (dealt m worker s) s ≡ 2 = dealt-now in
+        let now : markOf (dealt m (handsOf m) worker s) s ≡ 2 = dealt-now in
         deal s (100 * labelOf m s) u (record {
           live = omega arith;
           idle = omega arith;
@@ -65,18 +65,18 @@ module _ {passages estimates : List ℕ} {m : Machine} (z : Sure passages estima
           via = refl;
           front = refl;
           bound = refl;
-          place = applied-none passages (dealt m worker s) s (omega arith);
+          place = applied-none passages (dealt m (handsOf m) worker s) s (omega arith);
           other = λ x d. record {
             mark = dealt-else x d;
             label = refl;
             via = refl;
             front = refl;
             bound = refl;
-            place = applied-same passages m (dealt m worker s) x (dealt-else x d);
+            place = applied-same passages m (dealt m (handsOf m) worker s) x (dealt-else x d);
           };
         })
 
-    dealt-sure : s ≢ m .goal → Sure passages estimates (dealt m worker s)
+    dealt-sure : s ≢ m .goal → Sure passages estimates (dealt m (handsOf m) worker s)
     dealt-sure u = record {
       task = z .task;
       sized = record { marks = length-set (m .mark) s out ∙ z .sized .marks; labels = z .sized .labels; vias = z .sized .vias; workers = length-set (m .held) worker s ∙ z .sized .workers };
@@ -93,7 +93,7 @@ module _ {passages estimates : List ℕ} {m : Machine} (z : Sure passages estima
     good = z .good;
   }
 
-  pub act-sure : (worker : ℕ) (d : Decision) → Chosen (m .goal) (m .pull) (boardOf m estimates) d → Sure passages estimates (act m worker d .machine)
+  pub act-sure : (worker : ℕ) (d : Decision) → Chosen (m .goal) (m .pull) (boardOf m estimates) d → Sure passages estimates (act m (handsOf m) worker d .machine)
   act-sure worker (Found cost) k = phase-sure 1
   act-sure worker NoPath k = phase-sure 2
   act-sure worker (Deal s) k = dealt-sure worker s (k .0) (k .1)

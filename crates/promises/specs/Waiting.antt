@@ -20,7 +20,7 @@ use Rattle.dealing.specs.declared.Decision.{Decision}
 use Rattle.dealing.specs.declared.Decision.the-variants.{Found, NoPath, Deal, Stuck, Wait as WaitOn}
 use Rattle.desk.specs.declared.Machine.{Machine}
 use Rattle.desk.specs.declared.Reply.the-variants.{Wait}
-use Rattle.desk.specs.Machine.{markOf, boardOf}
+use Rattle.desk.specs.Machine.{markOf, boardOf, handsOf}
 use Rattle.desk.specs.Take.{act}
 use Rattle.desk.specs.Calls.{Event, call}
 use Rattle.promises.specs.Demand.{Foremost, HeldUp, WaitsFor}
@@ -127,7 +127,7 @@ module _ (m : Machine) (estimates : List ℕ) where
       go false o = waits-quiet o q
 
   -- of the decisions only Wait replies Wait
-  act-waits : (worker : ℕ) (d : Decision) → Chosen (m .goal) (m .pull) b d → (t : ℕ) → act m worker d .reply ≡ Wait t → WaitsFor m estimates t
+  act-waits : (worker : ℕ) (d : Decision) → Chosen (m .goal) (m .pull) b d → (t : ℕ) → act m (handsOf m) worker d .reply ≡ Wait t → WaitsFor m estimates t
   act-waits worker (Found cost) k t e = let z : _≡_ {A = ℕ} 0 1 = cc in absurd (omega arith)
   act-waits worker NoPath k t e = let z : _≡_ {A = ℕ} 0 1 = cc in absurd (omega arith)
   act-waits worker (Deal s) k t e = let z : _≡_ {A = ℕ} 0 1 = cc in absurd (omega arith)

@@ -1,34 +1,28 @@
 -- A session's text as its functions build it: what each call spends of the buffer, the text after so many events, and the report by what reading a file comes to.
 use mathlib.Core.Path.{_≡_, refl, sym, ap, subst, subst⁻¹, _∙_}
-use mathlib.Core.Bool.{Bool, true, false, _&&_, cond}
+use mathlib.Core.Bool.{Bool, true, false, cond}
 use mathlib.Core.List.{List, [], _∷_, _++_, append-nil, append-assoc}
-use Prim.Native.Nat.{ℕ, zero, suc, _+_, _-_, _*_, _%_, _≤_, _<_}
+use Prim.Native.Nat.{ℕ, _+_, _-_, _*_, _%_, _≤_, _<_}
 use native.Mathlib.Omega.{arith}
 use lib.ListN.{length, getD, replicate, take, length-append, length-take, length-drop}
-use lib.Dec.{ltb, leb, eqb}
-use borrow.Author.Tests.{eqb-true, eq-eqb, ne-eqb, le-leb, lt-leb}
+use lib.Dec.{leb, eqb}
+use borrow.Author.Tests.{eq-eqb, ne-eqb, le-leb, lt-leb}
 use Rattle.laws.specs.Truth.{provided, provided-either}
-use Rattle.laws.specs.Fold.{fold}
 use Rattle.laws.specs.Part.{overlaid}
 use Rattle.laws.specs.Put.{Put, put-next, put-none, put-length}
-use Rattle.rule.specs.Task.{passageCount, near, far, cost, isClear}
-use Rattle.rule.specs.Rule.{lowers}
 use Rattle.checks.specs.Opening.{task}
 use Rattle.dealing.specs.declared.Decision.{Decision}
 use Rattle.dealing.specs.declared.Decision.the-variants.{Found as FoundAt, NoPath as NoPathLeft, Deal, Stuck, Wait as WaitOn}
 use Rattle.dealing.specs.Decision.{decision}
 use Rattle.desk.specs.declared.Machine.{Machine}
-use Rattle.desk.specs.declared.Swept.{Swept}
 use Rattle.desk.specs.declared.Answer.{Answer}
-use Rattle.desk.specs.Machine.{heldBy, labelOf, boardOf}
+use Rattle.desk.specs.Machine.{handsOf, heldBy, boardOf}
 use Rattle.desk.specs.Reply.{when, found, refusalOf}
-use Rattle.desk.specs.Fits.{fits}
-use Rattle.desk.specs.Admission.{admitted}
 use Rattle.desk.specs.Take.{act, takeStep, takeOf}
-use Rattle.desk.specs.Bring.{swept, labelled, applyPassage, sweepOf, bringStep, bringOf}
+use Rattle.desk.specs.Bring.{bringStep, bringOf}
 use Rattle.desk.specs.Opening.{openingOf}
 use Rattle.desk.specs.Path.{pathOf}
-use Rattle.desk.specs.Laws.{path-either}
+use Rattle.desk.specs.Laws.{admitted-either, sweep-leaves, path-either}
 use Rattle.desk.specs.Calls.{Event, take as takes, bring as brings, workerOf, call, answers, after}
 use Rattle.desk.specs.Morning.{eventOf, eventsOf}
 use Rattle.desk.specs.CallLaws.{event-worker, after-more, firsts, firsts-more, firsts-all}
@@ -47,50 +41,24 @@ use Rattle.report.specs.Laws.{pathText, PathFits, reserve, spare, Said}
 abbrev Spends : Machine → Answer → Type 0
 Spends m a = spare (a .machine) + reserve (a .reply) ≤ spare m
 
--- going over the passages keeps the phase
-module _ (passages : List ℕ) (state label : ℕ) where
-  apply-phase : (i : ℕ) (w : Swept) → applyPassage passages state label i w .machine .phase ≡ w .machine .phase
-  unfolding applyPassage
-  apply-phase i w = go (eqb (near passages i) state && isClear passages i) (lowers (getD (w .machine .mark) (far passages i) 0) (labelOf (w .machine) (far passages i)) (label + cost passages i))
-    where
-      go : (t u : Bool) → cond t (cond u (swept (labelled (w .machine) (far passages i) (label + cost passages i) i) (w .many + 1)) w) w .machine .phase ≡ w .machine .phase
-      go true true = refl
-      go true false = refl
-      go false u = refl
+act-spends : (m : Machine) (held : List ℕ) (worker : ℕ) (d : Decision) → m .phase ≡ 0 → Spends m (act m held worker d)
+act-spends m held worker (FoundAt cost) e = rw (eq-eqb (m .phase) 0 e) (omega arith)
+act-spends m held worker NoPathLeft e = omega arith
+act-spends m held worker (Deal s) e = omega arith
+act-spends m held worker Stuck e = omega arith
+act-spends m held worker (WaitOn s) e = omega arith
 
-  fold-phase : (w : Swept) (n : ℕ) → fold (applyPassage passages state label) w n .machine .phase ≡ w .machine .phase
-  unfolding fold
-  fold-phase w zero = refl
-  fold-phase w (suc n) = apply-phase n (fold (applyPassage passages state label) w n) ∙ fold-phase w n
-
-sweep-phase : (m : Machine) (passages : List ℕ) (s : ℕ) → sweepOf m passages s .machine .phase ≡ m .phase
-unfolding sweepOf
-sweep-phase m passages s = fold-phase passages s (labelOf m s) (swept m 0) (passageCount passages)
-
-act-spends : (m : Machine) (worker : ℕ) (d : Decision) → m .phase ≡ 0 → Spends m (act m worker d)
-act-spends m worker (FoundAt cost) e = rw (eq-eqb (m .phase) 0 e) (omega arith)
-act-spends m worker NoPathLeft e = omega arith
-act-spends m worker (Deal s) e = omega arith
-act-spends m worker Stuck e = omega arith
-act-spends m worker (WaitOn s) e = omega arith
-
-bring-spends : (m : Machine) (passages : List ℕ) (worker : ℕ) → Spends m (bringStep m passages worker)
+bring-spends : (m : Machine) (held passages : List ℕ) (worker : ℕ) → Spends m (bringStep m held passages worker)
 unfolding bringStep
-bring-spends m passages worker = rw (sweep-phase m passages (heldBy m worker)) (omega arith)
-
-admitted-spends : (m : Machine) (passages estimates : List ℕ) (worker : ℕ) (ready : Bool) (c : Answer) → (m .phase ≡ 0 → Spends m c) → Spends m (admitted m passages estimates worker ready c)
-unfolding admitted
-admitted-spends m passages estimates worker ready c f =
-    provided-either (Spends m) (fits m passages estimates) _ _ (omega arith)
-    (λ _. provided-either (Spends m) (ltb worker (m .k)) _ _ (omega arith)
-    (λ _. provided-either (Spends m) (eqb (m .phase) 0) _ _ (omega arith)
-    (λ e. provided-either (Spends m) ready _ _ (omega arith)
-    (λ _. f (eqb-true (m .phase) 0 e)))))
+bring-spends m held passages worker = rw (sweep-leaves (λ (x : Machine). x .phase) (λ _ _ _ _. refl) m passages (heldBy held worker)) (omega arith)
 
 pub call-spends : (passages estimates : List ℕ) (m : Machine) (e : Event) → spare (call passages estimates m e .machine) + reserve (call passages estimates m e .reply) ≤ spare m
 unfolding takeOf takeStep bringOf
-call-spends passages estimates m (takes worker) = admitted-spends m passages estimates worker _ _ (act-spends m worker (decision (m .goal) (m .pull) (boardOf m estimates)))
-call-spends passages estimates m (brings worker) = admitted-spends m passages estimates worker _ _ (λ _. bring-spends m passages worker)
+call-spends passages estimates m (takes worker) =
+    admitted-either m (handsOf m) passages estimates (Spends m) worker _ _ (λ _ _. omega arith)
+    (λ a _. act-spends m (handsOf m) worker (decision (m .goal) (m .pull) (boardOf m estimates)) (a .searching))
+call-spends passages estimates m (brings worker) =
+    admitted-either m (handsOf m) passages estimates (Spends m) worker _ _ (λ _ _. omega arith) (λ _ _. bring-spends m (handsOf m) passages worker)
 
 -- a path that is read into 256 places has at most so many states
 pub path-fits : (m : Machine) (passages estimates : List ℕ) → PathFits (pathOf m passages estimates (replicate 256 0) 0 .given .reply)

@@ -13,7 +13,7 @@ use Rattle.checks.specs.Fits.{marksRight, labelsRight, workersRight, holders, h
 use Rattle.dealing.specs.Board.{dependsOn, firstDependence, safe, key, choice, foremost, anyOpen, anyOut, firstMarked}
 use Rattle.dealing.specs.Decision.{waitedFor, decision}
 use Rattle.trail.specs.Trail.{isHome, isLinked, goBack}
-use Rattle.desk.specs.Fits.{fits}
+use Rattle.desk.specs.Fits.{rowsFit, fits}
 use Rattle.desk.specs.Reply.{codeOf}
 use Rattle.desk.specs.Opening.{openedMachine, blankMachine, openingOf}
 use Rattle.desk.specs.Admission.{admitted}
@@ -34,5 +34,5 @@ use Rattle.report.specs.Line.{numbers, spoken}
 use Rattle.report.specs.Text.{conversation, session, taskText, printed}
 
 unfoldable pub definitions : Type 0
-unfolding fold first least count all made gathered picked isClear independent holdsBack lowers sizesRight endsRight weightsRight passagesRight estimatesRight passagesBound detoursBy detoursFrom detoursBound earlyFault fault marksRight labelsRight workersRight holders heldOnce dependsOn firstDependence safe key choice foremost anyOpen anyOut firstMarked waitedFor decision isHome isLinked goBack fits codeOf openedMachine blankMachine openingOf admitted takeStep takeOf applyPassage sweepOf bringStep bringOf pathOf answers replies after eventsOf eventsRight morningFault morningOf headAt passageAt rowAt callAt recordAt advance scanned filePassages fileEstimates fileCalls roomyFor readOf byte isWord digit digits number isSize widthAt rowsAt headRight mapOf isOpen isClosed rowsRight openAt cells stateOf stateCount countRight free rowTo columnTo linked isPassage leadsTo passage passagesOf passagesMany gap octile between estimatesOf mapFault roomy readMap decimalIn numbers spoken conversation session taskText printed
+unfolding fold first least count all made gathered picked isClear independent holdsBack lowers sizesRight endsRight weightsRight passagesRight estimatesRight passagesBound detoursBy detoursFrom detoursBound earlyFault fault marksRight labelsRight workersRight holders heldOnce dependsOn firstDependence safe key choice foremost anyOpen anyOut firstMarked waitedFor decision isHome isLinked goBack rowsFit fits codeOf openedMachine blankMachine openingOf admitted takeStep takeOf applyPassage sweepOf bringStep bringOf pathOf answers replies after eventsOf eventsRight morningFault morningOf headAt passageAt rowAt callAt recordAt advance scanned filePassages fileEstimates fileCalls roomyFor readOf byte isWord digit digits number isSize widthAt rowsAt headRight mapOf isOpen isClosed rowsRight openAt cells stateOf stateCount countRight free rowTo columnTo linked isPassage leadsTo passage passagesOf passagesMany gap octile between estimatesOf mapFault roomy readMap decimalIn numbers spoken conversation session taskText printed
 definitions = Unit

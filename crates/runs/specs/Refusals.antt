@@ -3,14 +3,14 @@ use mathlib.Core.Path.{_≡_, refl}
 use mathlib.Core.Bool.{true, false}
 use mathlib.Core.List.{List, [], _∷_, map}
 use Prim.Native.Nat.{ℕ, _+_, _*_}
-use lib.ListN.{replicate, take as front}
+use lib.ListN.{replicate, set, take as front}
 use Rattle.rule.specs.Marks.{none}
 use Rattle.checks.specs.Opening.{Task, task, sizesRight}
 use Rattle.dealing.specs.declared.Decision.the-variants.{Stuck}
 use Rattle.desk.specs.declared.Machine.{Machine}
 use Rattle.desk.specs.declared.Reply.{Reply}
 use Rattle.desk.specs.declared.Reply.the-variants.{Opened, Wait, Read, Refused, Done}
-use Rattle.desk.specs.Machine.{withPhase, withMark, withLabel, withVia, withHeld}
+use Rattle.desk.specs.Machine.{withPhase, withMark, withLabel, withVia, withHands, handsOf}
 use Rattle.desk.specs.Reply.{answer, refused}
 use Rattle.desk.specs.Take.{act}
 use Rattle.desk.specs.Path.{pathOf}
@@ -26,6 +26,10 @@ told m = called m (take 1) .reply
 
 abbrev toldIn : Task → Reply
 toldIn t = call (t .passages) (t .estimates) (midwayIn t) (take 1) .reply
+
+-- the machine with a state in a worker's hands
+abbrev withHeld : Machine → ℕ → ℕ → Machine
+withHeld m worker s = withHands m (set (handsOf m) worker s)
 
 -- `midway`, and `unfit`, with phase 1 and with state 1 in the hands of worker 2 of 2
 abbrev over : Machine → Machine
@@ -88,7 +92,7 @@ pub record Refusals : Type 0 where
       called (withPhase unfit 1) (bring 2) ∷ called (withPhase midway 1) (bring 2) ∷ called (withPhase midway 1) (bring 1) ∷ called midway (bring 1) ∷ [] ≡
       refused (withPhase unfit 1) 8 ∷ refused (withPhase midway 1) 9 ∷ refused (withPhase midway 1) 10 ∷ refused midway 11 ∷ []
   -- 12 "as in step 4 above", to which no machine comes
-  pub take-stuck : act midway 1 Stuck ≡ refused midway 12
+  pub take-stuck : act midway (handsOf midway) 1 Stuck ≡ refused midway 12
   -- Fits: "conditions 1 to 4 hold of the machine's numbers and the lent slices". A passage slice of 17 numbers; goal 5 of 5; W 101; a cost of 1,000,001; none of them.
   pub fits-task :
       toldIn (task 5 2 0 4 100 100 (front 17 passages) zeros) ∷

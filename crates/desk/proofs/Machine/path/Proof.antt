@@ -9,10 +9,10 @@ use lib.ListN.{length-take, length-drop}
 use borrow.Author.Tests.{not-true, not-false}
 use Rattle.desk.specs.declared.Answer.{Answer}
 use Rattle.trail.specs.Laws.{path-within}
-use Rattle.desk.specs.Machine.{trailOf}
+use Rattle.desk.specs.Machine.{handsOf, trailOf}
 use Rattle.desk.specs.Fits.{fits}
 use Rattle.desk.specs.Path.{PathReading}
-use Rattle.desk.specs.Laws.{Fitting, fitting, inside, path-unfit, path-early, path-broken, path-short, path-read, path-way, path-written}
+use Rattle.desk.specs.Laws.{Fitting, fitting, sound-sizes, fits-by, inside, path-unfit, path-early, path-broken, path-short, path-read, path-way, path-written}
 use borrow.Author.Needs.{needs}
 use Rattle.desk.proofs.Machine.path.Statement.{statement}
 use Rattle.desk.proofs.Machine.path.Tie as tie
@@ -21,23 +21,37 @@ use Rattle.desk.proofs.Machine.path.Tie as tie
 reads-as : {given : Answer} {buffer : List ℕ} {r : PathReading} → r ≡ record { given = given; buffer = buffer } → (given ≡ r .given) × (buffer ≡ r .buffer)
 reads-as e = (sym (ap (λ (s : PathReading). s .given) e), sym (ap (λ (s : PathReading). s .buffer) e))
 
+-- where the function starts
+abbrev begun : tie.After-fits2 → tie.Start
+begun c = c .before .before .before .before .before .before .before .before .before
+
+-- what the call of `fits` found
+found : (c : tie.After-fits2) → c .fits2 .result ≡ fits (begun c .args .t1) (handsOf (begun c .args .t1)) (now (begun c .args .passages)) (now (begun c .args .estimates))
+found c = fits-by _ _ _ _ _ (c .before .before .before .before .before .task-fits .ensures) _ (c .fits2 .ensures)
+
 -- past the first test the machine fits
 module _ (c : tie.Else1) where
-  fit : fits (c .before .before .before .before .before .args .t1) (now (c .before .before .before .before .before .args .passages)) (now (c .before .before .before .before .before .args .estimates)) ≡ true
-  fit = sym (c .before .fits2 .ensures) ∙ not-false _ (c .if1 .left)
+  abbrev start : tie.Start
+  start = begun (c .before)
 
-  facts : Fitting (c .before .before .before .before .before .args .t1) (now (c .before .before .before .before .before .args .passages)) (now (c .before .before .before .before .before .args .estimates))
-  facts = fitting _ _ _ fit
+  fit : fits (start .args .t1) (handsOf (start .args .t1)) (now (start .args .passages)) (now (start .args .estimates)) ≡ true
+  fit = sym (found (c .before)) ∙ not-false _ (c .if1 .left)
+
+  facts : Fitting (start .args .t1) (handsOf (start .args .t1)) (now (start .args .passages)) (now (start .args .estimates))
+  facts = fitting _ _ _ _ fit
+
+task-fits-requires : tie.Need-task-fits-requires
+task-fits-requires c κs = search needs
 
 fits-requires : tie.Need-fits-requires
-fits-requires c κs = search needs
+fits-requires c κs = sound-sizes _ _ (c .before .before .before .before .task-fits .ensures)
 
 refused-requires : tie.Need-refused-requires
 refused-requires c κs = search needs
 
 returns : tie.Need-returns
 returns c =
-    let e = reads-as (path-unfit _ _ _ _ _ (sym (c .before .before .fits2 .ensures) ∙ not-true _ (c .before .if1 .taken))) in
+    let e = reads-as (path-unfit _ _ _ _ _ (sym (found (c .before .before)) ∙ not-true _ (c .before .if1 .taken))) in
     (c .refused .ensures ∙ e .0, e .1)
 
 refused-requires-2 : tie.Need-refused-requires-2
@@ -51,7 +65,7 @@ returns-2 c =
 path-length-requires : tie.Need-path-length-requires
 path-length-requires c κs =
     let f = facts (c .before .before .before .before) in
-    (inside _ _ _ f, (omega (arith, f .task .goal-in, f .task .states), f .task .states))
+    (inside _ _ _ _ f, (omega (arith, f .task .goal-in, f .task .states), f .task .states))
 
 refused-requires-3 : tie.Need-refused-requires-3
 refused-requires-3 c κs = search needs
@@ -69,7 +83,7 @@ returns-4 : tie.Need-returns-4
 returns-4 c =
     let l = c .before .before in
     let d = l .before .before .before .before .before in
-    let a = d .before .before .before .before .before .before .args in
+    let a = start (d .before) .args in
     let e = reads-as (path-short (a .t1) (now (a .passages)) (now (a .estimates)) (now (a .buffer)) (a .at) (fit (d .before)) (d .if2 .left) (l .before .path-length .result) (l .before .path-length .ensures) (l .if3 .left) (omega (arith, l .if3 .left, c .before .if4 .taken))) in
     (c .refused4 .ensures ∙ e .0, e .1)
 
@@ -102,7 +116,7 @@ write-back-requires : tie.Need-write-back-requires
 write-back-requires c κs =
     let l = c .before .before .before .before .before in
     let d = l .before .before .before .before .before in
-    let a = d .before .before .before .before .before .before .args in
+    let a = start (d .before) .args in
     (path-way _ _ _ (now (a .buffer)) (a .at) (fit (d .before)) (d .if2 .left) _ (l .before .path-length .ensures) (l .if3 .left), simp (length-take, length-drop) (omega (arith, c .before .before .before .if5 .left)))
 
 same-length : tie.Need-same-length
@@ -112,7 +126,7 @@ returns-6 : tie.Need-returns-6
 returns-6 c =
     let l = c .before .before .before .before .before .before .before .before in
     let d = l .before .before .before .before .before in
-    let a = d .before .before .before .before .before .before .args in
+    let a = start (d .before) .args in
     let e = reads-as (path-read _ _ _ _ _ (fit (d .before)) (d .if2 .left) _ (l .before .path-length .ensures) (l .if3 .left) (c .before .before .before .before .before .before .if5 .left)) in
     (e .0, path-written (a .t1) (now (a .passages)) (now (a .estimates)) (now (a .buffer)) (a .at) (fit (d .before)) (d .if2 .left) _ (l .before .path-length .ensures) (l .if3 .left) _ (c .before .before .write-back .ensures) ∙ e .1)
 
@@ -120,13 +134,14 @@ cast-states : tie.Need-cast-states
 cast-states c =
     let l = c .before .before .before .before .before .before .before .before in
     let d = l .before .before .before .before .before in
-    let a = d .before .before .before .before .before .before .args in
+    let a = start (d .before) .args in
     omega (arith, l .before .path-length .ensures, path-within (trailOf (a .t1) (now (a .passages))), facts (d .before) .task .states)
 
 pub path-spec : {M : Type 1} → statement M
 path-spec =
     tie.close
     (tie.spec
+    task-fits-requires
     fits-requires
     refused-requires
     returns

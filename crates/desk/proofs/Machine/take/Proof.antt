@@ -1,66 +1,16 @@
--- `Machine::take`: the refusals of the ladder, then the step; a machine that fits gives the step what it asks.
-use Rattle.checks.specs.Laws.{whole}
-use mathlib.Core.Path.{_∙_, sym, ap}
-use native.Mathlib.Omega.{arith}
-use denote.Ref.{now}
-use borrow.Author.Tests.{eq-eqb, ne-eqb}
-use Rattle.desk.specs.Reply.{refused}
-use Rattle.desk.specs.Take.{takeOf}
-use Rattle.desk.specs.Laws.{Fitting, fitting, Admitted, call-admitted, turned-away, not-ready, goes-on}
+-- `Machine::take` looks at conditions 1 to 4, and goes on with what it found.
 use borrow.Author.Needs.{needs}
 use Rattle.desk.proofs.Machine.take.Statement.{statement}
 use Rattle.desk.proofs.Machine.take.Tie as tie
 
--- past the first test none of 8, 9 and 10 applies, and the machine fits
-module _ (c : tie.Else1) where
-  let-in : Admitted (c .before .before .before .before .args .t1) (now (c .before .before .before .before .args .passages)) (now (c .before .before .before .before .args .estimates)) (c .before .before .before .before .args .worker)
-  let-in = call-admitted _ _ _ _ (sym (c .before .call-fault .ensures) ∙ c .if1 .left)
+task-fits-requires : tie.Need-task-fits-requires
+task-fits-requires c κs = search needs
 
-  facts : Fitting (c .before .before .before .before .args .t1) (now (c .before .before .before .before .args .passages)) (now (c .before .before .before .before .args .estimates))
-  facts = fitting _ _ _ (let-in .fit)
-
-call-fault-requires : tie.Need-call-fault-requires
-call-fault-requires c κs = search needs
-
-refused-requires : tie.Need-refused-requires
-refused-requires c κs = search needs
+take-checked-requires : tie.Need-take-checked-requires
+take-checked-requires c κs = c .task-fits .ensures
 
 returns : tie.Need-returns
-unfolding takeOf
-returns c =
-    let f = c .before .before .call-fault in
-    c .refused .ensures ∙ ap (refused _) (f .ensures) ∙ turned-away _ _ _ _ _ _ (λ z. c .before .if1 .taken (f .ensures ∙ z))
-
-mul-if2 : tie.Need-mul-if2
-mul-if2 c = omega (arith, let-in c .worker-in, facts c .task .workers)
-
-element-copy-out-if2 : tie.Need-element-copy-out-if2
-element-copy-out-if2 c = omega (arith, let-in c .worker-in, facts c .task .workers)
-
-refused-requires-2 : tie.Need-refused-requires-2
-refused-requires-2 c κs = search needs
-
-returns-2 : tie.Need-returns-2
-unfolding takeOf
-returns-2 c = c .refused2 .ensures ∙ not-ready _ _ _ _ _ _ (let-in (c .before .before .before)) (ne-eqb _ 65535 (c .before .if2 .taken))
-
-take-step-requires : tie.Need-take-step-requires
-take-step-requires c κs = let d = c .before .before in let f = facts d .task in (whole _ f, (f .goal-in, omega (arith, let-in d .worker-in, f .workers)))
-
-returns-3 : tie.Need-returns-3
-unfolding takeOf
-returns-3 c = c .take-step .ensures ∙ goes-on _ _ _ _ _ _ (let-in (c .before .before .before)) (eq-eqb _ 65535 (c .before .if2 .left))
+returns c = c .take-checked .ensures
 
 pub take-spec : {M : Type 1} → statement M
-take-spec =
-    tie.close
-    (tie.spec
-    call-fault-requires
-    refused-requires
-    returns
-    mul-if2
-    element-copy-out-if2
-    refused-requires-2
-    returns-2
-    take-step-requires
-    returns-3)
+take-spec = tie.close (tie.spec task-fits-requires take-checked-requires returns)

@@ -1,16 +1,16 @@
--- The loop's invariant is that the machine and the row are those of the first i calls.
+-- The loop's invariant is that the machine and the row are those of the first i calls. What was looked at once holds of every machine on the way.
 use Prim.Native.Nat.{_≤_, _-_}
 use lib.ListN.{length}
-use Rattle.desk.specs.CallLaws.{Served, served-zero, served-more, served-end}
+use Rattle.desk.specs.CallLaws.{after-sound, Served, served-zero, served-more, served-end}
 use borrow.Author.Needs.{needs}
 use Rattle.desk.proofs.mornings.serve.Statement.{statement}
 use Rattle.desk.proofs.mornings.serve.Tie as tie
 
 abbrev Inv-loop : tie.InvT-loop
-Inv-loop passages estimates events row₀ m₀ i₀ i-end row m i = (i ≤ length events) × Served passages estimates m₀ events row₀ row m i
+Inv-loop sound passages estimates events row₀ m₀ i₀ i-end row m i = (i ≤ length events) × Served passages estimates m₀ events row₀ row m i
 
 abbrev μ-loop : tie.MeasureT-loop
-μ-loop passages estimates events row₀ m₀ i₀ i-end row m i = length events - i
+μ-loop sound passages estimates events row₀ m₀ i₀ i-end row m i = length events - i
 
 loop-holds : tie.Need-loop-holds Inv-loop μ-loop
 loop-holds c = (search needs, served-zero _ _ _ _ _)
@@ -22,7 +22,9 @@ shared-slice-read-called : tie.Need-shared-slice-read-called Inv-loop μ-loop
 shared-slice-read-called c = search needs
 
 called-requires : tie.Need-called-requires Inv-loop μ-loop
-called-requires c κs = search needs
+called-requires c κs =
+    let l = c .before .before .loop in
+    after-sound _ _ _ _ _ _ (c .before .before .before .before .before .before .before .pre .0) (l .inv .1 .machine)
 
 code-requires : tie.Need-code-requires Inv-loop μ-loop
 code-requires c κs = search needs

@@ -1,8 +1,10 @@
 -- `play`: the loop's invariant is that the machine and the text are the session's after i events, with 50 places left for each further event and a path line's places while the search goes on.
+use mathlib.Core.Path.{sym}
 use Prim.Native.Nat.{_≤_, _-_}
 use native.Mathlib.Omega.{arith}
 use lib.ListN.{length}
 use borrow.Author.Needs.{needs}
+use Rattle.desk.specs.CallLaws.{after-sound}
 use Rattle.report.specs.SessionLaws.{Played, played-zero, played-more, played-end}
 use Rattle.report.proofs.session.play.Statement.{statement}
 use Rattle.report.proofs.session.play.Tie as tie
@@ -14,7 +16,7 @@ abbrev μ-loop : tie.MeasureT-loop
 μ-loop passages estimates events out₀ m₀ at₀ i₀ i-end out m at i = length events - i
 
 loop-holds : tie.Need-loop-holds Inv-loop μ-loop
-loop-holds c = (search needs, played-zero _ _ _ _ _ (c .before .before .before .before .pre))
+loop-holds c = (search needs, played-zero _ _ _ _ _ (c .before .before .before .before .pre .0))
 
 mul-tell : tie.Need-mul-tell Inv-loop μ-loop
 mul-tell c = search needs
@@ -25,7 +27,7 @@ shared-slice-read-tell c = search needs
 tell-requires : tie.Need-tell-requires Inv-loop μ-loop
 tell-requires c κs =
     let l = c .before .before .before .loop in
-    omega (arith, l .inv .1 .left, l .inv .1 .long, c .before .before .loop-test .taken)
+    (omega (arith, l .inv .1 .left, l .inv .1 .long, c .before .before .loop-test .taken), sym (after-sound _ _ _ _ _ _ (sym (c .before .before .before .before .before .before .before .before .pre .1)) (l .inv .1 .machine)))
 
 add-i : tie.Need-add-i Inv-loop μ-loop
 add-i c = search needs

@@ -1,4 +1,6 @@
--- `put_task`: the reply of opening says whether the refusal is put or the events are played.
+-- `put_task`: the reply of opening says whether the refusal is put or the events are played, and what it accepted is what `play` asks.
+use mathlib.Core.Path.{sym, _∙_}
+use Rattle.desk.specs.Laws.{opened-sound}
 use borrow.Author.Needs.{needs}
 use Rattle.report.specs.SessionLaws.{put-refused, put-played}
 use Rattle.report.proofs.session.put_task.Statement.{statement}
@@ -29,7 +31,9 @@ returns c =
     put-refused _ _ _ _ _ (o .ensures) _ (n .ensures) _ _ _ (c .before .before .before .before .before .if1 .taken) (c .before .before .put-line1 .ensures .0)
 
 play-requires : tie.Need-play-requires
-play-requires c κs = search needs
+play-requires c κs =
+    let o = c .before .before .before .before .opening in
+    (search needs, opened-sound _ _ (o .ensures) (sym (c .before .before .before .refusal-of .ensures) ∙ c .before .before .if1 .left))
 
 same-length-2 : tie.Need-same-length-2
 same-length-2 c = search needs
