@@ -73,7 +73,7 @@ impl<'a> Watch<'a> {
     pub fn see_labels(&self, row: &[u32]) -> Result<(), String> {
         let vias = row[VIAS..][..self.task.head.n].iter().enumerate();
         for (state, &number) in vias.filter(|(_, &number)| number != u32::from(NONE)) {
-            if self.passage(number).is_none_or(is_blocked) {
+            if self.passage(number).map_or(true, is_blocked) {
                 return Err(format!("state {state} came by {number}, blocked or none"));
             }
         }
@@ -140,9 +140,7 @@ impl Waiting<'_> {
         if self.marked(&[OPEN, OUT]).all(|s| s != named) {
             return Err("which is neither open nor out".into());
         }
-        let Some(lowest_out) = self.marked(&[OUT]).next() else {
-            return Err("but nothing is out".into());
-        };
+        let lowest_out = self.marked(&[OUT]).next().ok_or("but nothing is out")?;
         match self.marked(&[OPEN]).min_by_key(|&s| (self.key(s), s)) {
             Some(smallest) => self.check_dependence(smallest, named),
             None if named != lowest_out => Err(format!("but {lowest_out} is out, and none open")),

@@ -216,12 +216,14 @@ impl Machine {
             return Reply::Refused(13);
         }
         let mut back = [0; MAX_STATES];
-        let Some(count) = self.walk_back(graph.passages, &mut back) else {
-            return Reply::Refused(14);
+        let count = match self.walk_back(graph.passages, &mut back) {
+            Some(count) => count,
+            None => return Reply::Refused(14),
         };
         let tail = buffer.get_mut(at..).unwrap_or_default();
-        let Some(places) = tail.get_mut(..count) else {
-            return Reply::Refused(15);
+        let places = match tail.get_mut(..count) {
+            Some(places) => places,
+            None => return Reply::Refused(15),
         };
         for (place, &state) in places.iter_mut().zip(back[..count].iter().rev()) {
             *place = state;
@@ -396,7 +398,7 @@ fn shared_refusal(head: &Head, graph: Graph) -> Option<u32> {
 fn sizes_in_range(head: &Head, graph: Graph) -> bool {
     (1..=MAX_STATES).contains(&head.n)
         && (1..=MAX_WORKERS).contains(&head.k)
-        && graph.passages.len().is_multiple_of(3)
+        && graph.passages.len() % 3 == 0
         && graph.passages.len() <= 3 * MAX_PASSAGES
         && graph.estimates.len() == head.n * head.n
 }

@@ -32,8 +32,8 @@ pub struct Cell {
 impl Cell {
     fn neighbour(self, (down, right): (isize, isize)) -> Option<Cell> {
         Some(Cell {
-            row: self.row.checked_add_signed(down)?,
-            column: self.column.checked_add_signed(right)?,
+            row: usize::try_from(self.row as isize + down).ok()?,
+            column: usize::try_from(self.column as isize + right).ok()?,
         })
     }
 }

@@ -172,8 +172,9 @@ pub struct Independent;
 impl Independent {
     /// Runs a call on the machine of a row and writes the machine back.
     fn on_row(row: &mut [u32], call: impl FnOnce(&mut Machine) -> Reply) -> u64 {
-        let Some(mut machine) = decode(row) else {
-            return code(Reply::Refused(8));
+        let mut machine = match decode(row) {
+            Some(machine) => machine,
+            None => return code(Reply::Refused(8)),
         };
         let reply = call(&mut machine);
         encode(&machine, row);
@@ -236,8 +237,9 @@ impl RowDesk for Independent {
             passages.get_mut(..all_passages.len()),
             estimates.get_mut(..all_estimates.len()),
         );
-        let (Some(passages), Some(estimates)) = lent else {
-            return 34;
+        let (passages, estimates) = match lent {
+            (Some(passages), Some(estimates)) => (passages, estimates),
+            _ => return 34,
         };
         passages.copy_from_slice(&all_passages);
         estimates.copy_from_slice(&all_estimates);

@@ -24,7 +24,7 @@ fn maps_of(folder: &Path) -> std::io::Result<Vec<PathBuf>> {
         .map(|entry| entry.map(|entry| entry.path()))
         .collect();
     let mut maps = paths?;
-    maps.retain(|path| path.extension().is_some_and(|ending| ending == "map"));
+    maps.retain(|path| path.extension().map_or(false, |ending| ending == "map"));
     maps.sort();
     Ok(maps)
 }

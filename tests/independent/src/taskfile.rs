@@ -57,7 +57,7 @@ pub fn read(file: &[u8]) -> Result<(Task, Vec<Call>), Fault> {
 
 /// The record at the front of `bytes`, if all of it is there.
 fn next_record(bytes: &[u8]) -> Option<Record<'_>> {
-    let (front, rest) = bytes.split_at_checked(4)?;
+    let (front, rest) = (bytes.get(..4)?, bytes.get(4..)?);
     Some(Record {
         kind: two_bytes(&front[2..]),
         payload: rest.get(..usize::from(two_bytes(front)))?,
@@ -196,8 +196,9 @@ fn print_reply(text: &mut String, worker: usize, reply: Reply) {
 
 fn print_path(text: &mut String, machine: &Machine, graph: Graph) {
     let mut buffer = [0; MAX_FILE_STATES];
-    let Reply::Read(count) = machine.path(graph, &mut buffer, 0) else {
-        unreachable!("a found path can be read");
+    let count = match machine.path(graph, &mut buffer, 0) {
+        Reply::Read(count) => count,
+        _ => unreachable!("a found path can be read"),
     };
     text.push_str("path");
     for state in &buffer[..count as usize] {

@@ -328,12 +328,14 @@ fn take_is_the_literal_one() {
     let (mut compared, mut waits_for_open) = (0, 0);
     for case in 0..5000 {
         let (task, row) = maker::made_up(&mut Rng::new(11, case));
-        let Some(mut machine) = rows::decode(&row) else {
-            continue;
+        let mut machine = match rows::decode(&row) {
+            Some(machine) => machine,
+            None => continue,
         };
         let idle = machine.held.iter().position(|&held| held == NONE);
-        let (Some(worker), true) = (idle, machine.fits(task.graph())) else {
-            continue;
+        let worker = match idle {
+            Some(worker) if machine.fits(task.graph()) => worker,
+            _ => continue,
         };
         if worker < machine.head.k && machine.phase == 0 {
             let wanted = literal_take(&machine, task.graph());

@@ -28,10 +28,9 @@
 use independent::desks::Checked;
 use independent::rows::{Independent, RowDesk, Shown};
 use mornings::MORNINGS;
-use std::hint::black_box;
 use std::process::ExitCode;
 use table::{Line, Table};
-use timing::{Comparison, Go, Side};
+use timing::{black_box, Comparison, Go, Side};
 use workloads::WORKLOADS;
 
 #[path = "bench/growth.rs"]

@@ -151,8 +151,9 @@ fn room(rng: &mut Rng) -> Grid {
 
 /// Changes some of the lines, mostly so that they are no map.
 fn damage_lines(rng: &mut Rng, lines: &mut Vec<Vec<u8>>) {
-    let Some(last) = lines.len().checked_sub(1) else {
-        return;
+    let last = match lines.len() {
+        0 => return,
+        len => len - 1,
     };
     let any = rng.between(0, last);
     let header = rng.below(4).min(last);

@@ -29,13 +29,7 @@ pub const RUNS: &[Run] = &[
                 [1414, 1000, 1000, 0],
             ];
             let text = map_text(&["..", ".."]);
-            expect_map(
-                desk,
-                &text,
-                4,
-                passages.as_flattened(),
-                estimates.as_flattened(),
-            )
+            expect_map(desk, &text, 4, &passages.concat(), &estimates.concat())
         },
     },
     Run {
@@ -102,7 +96,7 @@ pub const RUNS: &[Run] = &[
                 [1000 * 3 + 414 * 3, 0, 1000 * 5],
                 [1000 * 3 + 414 * 2, 1000 * 5, 0],
             ];
-            expect_map(desk, &text, 3, &[], estimates.as_flattened())
+            expect_map(desk, &text, 3, &[], &estimates.concat())
         },
     },
     Run {

@@ -48,12 +48,14 @@ fn bring_is_the_literal_one() {
     let (mut compared, mut over_blocked) = (0, 0);
     for case in 0..5000 {
         let (task, row) = maker::made_up(&mut Rng::new(14, case));
-        let Some(mut machine) = rows::decode(&row) else {
-            continue;
+        let mut machine = match rows::decode(&row) {
+            Some(machine) => machine,
+            None => continue,
         };
         let busy = machine.held.iter().position(|&held| held != NONE);
-        let (Some(worker), true) = (busy, machine.fits(task.graph())) else {
-            continue;
+        let worker = match busy {
+            Some(worker) if machine.fits(task.graph()) => worker,
+            _ => continue,
         };
         if worker < machine.head.k && machine.phase == 0 {
             let held = u32::from(machine.held[worker]);
@@ -109,8 +111,9 @@ fn path_is_the_literal_one() {
     let (mut read, mut wrapped) = (0, 0);
     for case in 0..8000 {
         let (task, row) = maker::made_up(&mut Rng::new(15, case));
-        let Some(mut machine) = rows::decode(&row) else {
-            continue;
+        let mut machine = match rows::decode(&row) {
+            Some(machine) => machine,
+            None => continue,
         };
         machine.phase = FOUND;
         if !machine.fits(task.graph()) {

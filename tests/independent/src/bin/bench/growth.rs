@@ -3,14 +3,13 @@
 //! them is told Found or NoPath is the last.
 
 use crate::inputs::map_text;
-use crate::timing::{on_copy, Go};
+use crate::timing::{black_box, on_copy, Go};
 use independent::desk::{Action, Graph, Head, Reply, Task};
 use independent::desks::{Checked, Desks};
 use independent::maker::Rng;
 use independent::map::Map;
 use independent::morning::Event;
 use independent::rows::{RowDesk, PHASE, ROW};
-use std::hint::black_box;
 
 /// The passages of a state lead to so many others.
 const NEAR: usize = 8;
@@ -46,7 +45,8 @@ impl Size {
     /// state is dealt, and those a few cells apart at the same time.
     fn task(&self) -> Checked<Task> {
         let Size { n, passages, k } = *self;
-        let width = 1 << n.ilog2().div_ceil(2);
+        // n is a power of two; the grid is a square, or two side by side
+        let width = 1 << ((n.trailing_zeros() + 1) / 2);
         let text = map_text(n / width, width);
         let map = Map::read(text.as_bytes()).map_err(|number| format!("no map: {number}"))?;
         let estimates = map.estimates();

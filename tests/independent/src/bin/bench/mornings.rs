@@ -2,13 +2,12 @@
 
 use crate::growth::Size;
 use crate::inputs::{ended_call, ended_task, opened_row, searching_call, searching_task};
-use crate::timing::{on_copy, Go};
+use crate::timing::{black_box, on_copy, Go};
 use independent::desk::{Action, Graph, Reply, Task};
 use independent::desks::{Checked, Desks};
 use independent::morning::Event;
 use independent::rows::RowDesk;
 use std::cell::RefCell;
-use std::hint::black_box;
 
 /// A name, and the list of events that has it.
 pub struct Morning {

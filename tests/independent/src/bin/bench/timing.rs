@@ -3,9 +3,9 @@
 //! off, and the least time of all batches counts.
 
 use independent::rows::RowDesk;
+use std::arch::asm;
 use std::cell::RefCell;
 use std::fs::File;
-use std::hint::black_box;
 use std::os::unix::fs::FileExt;
 use std::rc::Rc;
 use std::time::{Duration, Instant};
@@ -23,6 +23,15 @@ const BATCH: Duration = Duration::from_millis(1);
 
 /// What is timed: one go of it with a desk; gives the last reply or length.
 pub type Go = Rc<dyn Fn(&dyn RowDesk) -> u64>;
+
+/// Hands a value back, as something of which the compiler knows nothing: what it
+/// is worked out from, or for, is not left out. `std::hint::black_box` does the
+/// same from Rust 1.66 on.
+pub fn black_box<T>(mut value: T) -> T {
+    // no instruction, but one that may read and write what it is shown
+    unsafe { asm!("/* {} */", in(reg) &mut value as *mut T, options(nostack, preserves_flags)) };
+    value
+}
 
 /// One go with a fresh copy of a row.
 pub fn on_copy(row: Vec<u32>, go: impl Fn(&dyn RowDesk, &mut [u32]) -> u64 + 'static) -> Go {

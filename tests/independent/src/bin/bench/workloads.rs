@@ -4,11 +4,10 @@
 use crate::inputs::{
     ended_file, faulty_file, map_task, map_text, opened_row, searching_file, spread_row,
 };
-use crate::timing::{on_copy, Go};
+use crate::timing::{black_box, on_copy, Go};
 use independent::desk::{Graph, NONE, OUT};
 use independent::rows::{Independent, RowDesk, HELD, MARKS, PHASE, PRINT_ROOM, ROW};
 use std::cell::RefCell;
-use std::hint::black_box;
 use std::rc::Rc;
 
 /// A name, and what sets up a go of it.
