@@ -6,11 +6,11 @@ use Prim.Native.Nat.{ℕ, _+_, _≤_, _<_}
 use native.Mathlib.Nat.{eq-or-lt-of-le}
 use native.Mathlib.Omega.{arith}
 use borrow.Author.Tests.{eq-eqb, ne-eqb, eqb-true, ltb-true, ltb-false, lt-ltb, le-ltb, not-false}
-use lib.Dec.{ltb}
+use lib.Dec.{ltb, eqb}
 use Rattle.laws.specs.Truth.{and-false}
 use Rattle.laws.specs.First.{first, first-found, first-at, first-end, first-le, any-not, any-of}
 use Rattle.laws.specs.Least.{Best, best-zero, best-skip, best-lost, best-won, best-end, least-passes, least-below, least-nothing}
-use Rattle.rule.specs.Marks.{waiting, out, isOpen}
+use Rattle.rule.specs.Marks.{waiting, out, isOpen, isLive}
 use Rattle.rule.specs.Rule.{holdsBack, keyOf}
 use Rattle.dealing.specs.declared.Choice.{Choice}
 use Rattle.dealing.specs.declared.Choice.the-variants.{Safe, Stopped, NoneOpen}
@@ -30,6 +30,10 @@ module _ (b : Board) (s t : ℕ) where
   pub depends-self : t ≡ s → dependsOn b s t ≡ false
   unfolding dependsOn
   depends-self e = rw (eq-eqb t s e)
+
+  pub depends-dead : isLive (markAt b t) ≡ false → dependsOn b s t ≡ false
+  unfolding dependsOn holdsBack
+  depends-dead d = rw d (and-false (not (eqb t s)))
 
   pub depends-other : (g : ℕ) (r : Bool) → (t ≡ s → ⊥) → g ≡ h b t s
       → r ≡ holdsBack (markAt b t) (labelAt b s) (labelAt b t) (b .excess) g → dependsOn b s t ≡ r

@@ -38,10 +38,13 @@ pub fn first_dependence<'a>(
 {
     let label_s = label[s];
     for t in 0..n {
-        if t != s {
-            let h = rule::estimate(estimates, n, t, s);
-            if rule::holds_back(mark[t], label_s, label[t], excess, h) {
-                return t;
+        // The mark first: the estimates to s lie a row apart, and most are left unread where few states are open or out.
+        if rule::is_live(mark[t]) {
+            if t != s {
+                let h = rule::estimate(estimates, n, t, s);
+                if rule::holds_back(mark[t], label_s, label[t], excess, h) {
+                    return t;
+                }
             }
         }
     }
@@ -85,18 +88,20 @@ pub fn choose<'a>(
             }
         }
         for t in 0..n {
-            if t != s {
-                let h = rule::estimate(estimates, n, t, s);
-                if rule::holds_back(mark[t], label_s, label[t], excess, h) {
-                    if front != n {
-                        if key >= ahead {
-                            continue 'candidates;
+            if rule::is_live(mark[t]) {
+                if t != s {
+                    let h = rule::estimate(estimates, n, t, s);
+                    if rule::holds_back(mark[t], label_s, label[t], excess, h) {
+                        if front != n {
+                            if key >= ahead {
+                                continue 'candidates;
+                            }
                         }
+                        front = s;
+                        ahead = key;
+                        stop = t;
+                        continue 'candidates;
                     }
-                    front = s;
-                    ahead = key;
-                    stop = t;
-                    continue 'candidates;
                 }
             }
         }

@@ -11,3 +11,4 @@ pub mod Calls
 pub mod Morning
 pub mod CallLaws
 pub mod Laws
+pub mod ToldLaws

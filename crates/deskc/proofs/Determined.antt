@@ -85,6 +85,9 @@ put-held κs a x y p q i = (tt, (same p q i, (tt, tt)))
 pub put-changing : Fixes f.row.put_changing.ended f.row.put_changing.Reads.Learnt
 put-changing κs a x y p q i = (tt, (same p q i, (tt, tt)))
 
+pub put-taken : Fixes f.row.put_taken.ended f.row.put_taken.Reads.Learnt
+put-taken κs a x y p q i = (tt, (same p q i, (tt, (tt, tt))))
+
 pub put-head : Fixes f.row.put_head.ended f.row.put_head.Reads.Learnt
 put-head κs a x y p q i = (tt, (same p q i, (tt, tt)))
 

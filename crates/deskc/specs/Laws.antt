@@ -2,16 +2,18 @@
 use mathlib.Core.Path.{_≡_, refl, sym, ap, _∙_}
 use mathlib.Core.Bool.{Bool, true, false, _&&_}
 use mathlib.Core.List.{List, [], _∷_, _++_, append-nil, append-assoc}
-use Prim.Native.Nat.{ℕ, _+_, _≤_, _<_}
+use Prim.Native.Nat.{ℕ, suc, _+_, _≤_, _<_}
+use native.Mathlib.Nat.{zero-add, suc-add}
 use native.Mathlib.Omega.{arith}
-use lib.ListN.{length, getD, set, take, drop, length-append, length-take, length-drop, drop-of-length-le, take-append-drop}
-use lib.Seq.{ext-getD, getD-take, getD-drop, drop-drop, set-getD}
+use lib.ListN.{length, getD, set, take, drop, length-set, length-append, length-take, length-drop, drop-of-length-le, take-append-drop}
+use lib.Seq.{ext-getD, getD-take, getD-drop, drop-drop, set-getD, length-take-le, set-append-left}
 use lib.Dec.{leb, eqb}
 use borrow.Author.Tests.{eqb-true, leb-true}
 use Rattle.laws.specs.Truth.{and-left, and-right, provided}
 use Rattle.laws.specs.All.{all-at}
 use Rattle.laws.specs.Part.{overlaid}
 use Rattle.laws.specs.Fill.{made, made-length, made-at, Filled, filled-end, overlaid-one, overlaid-next}
+use Rattle.rule.specs.Marks.{out}
 use Rattle.rule.specs.Refusals.{unfit}
 use Rattle.checks.specs.Opening.{Task, task, weightsRight, holds1, holds2, holds3, fault}
 use Rattle.checks.specs.Laws.{right, fault-none}
@@ -20,8 +22,12 @@ use Rattle.desk.specs.Opening.{openingOf, openedMachine, blankMachine}
 use Rattle.desk.specs.declared.Reply.the-variants.{Refused}
 use Rattle.desk.specs.declared.Answer.{Answer}
 use Rattle.desk.specs.Reply.{codeOf, refused}
+use Rattle.desk.specs.Machine.{withPhase, withMark, withHands, handsOf}
+use Rattle.desk.specs.Take.{dealt, takeOf}
+use Rattle.desk.specs.Calls.{Event, call}
+use Rattle.desk.specs.ToldLaws.{taken, take-told, call-refused}
 use Rattle.desk.specs.Laws.{Sized}
-use Rattle.deskc.specs.Calls.{turnOf}
+use Rattle.deskc.specs.Calls.{turnOf, takeRow}
 use Rattle.deskc.specs.Weights.{clamped}
 use Rattle.deskc.specs.Row.{atMost, isRow, part, unpacked, changing, changed, packed}
 
@@ -200,3 +206,67 @@ pub turn-made : (row next : List ℕ) (given a : Answer) (code : ℕ) → isRow 
     → (code ≡ turnOf row a .code) × (next ≡ turnOf row a .row)
 unfolding turnOf
 turn-made row next given a code e g q n = (rw (e, ← g) q, rw (e, ← g) n)
+
+-- one number stored in the second of two lists, and in a list that is written over another
+set-past : {X : Type 0} (xs ys : List X) (i : ℕ) (a : X) → set (xs ++ ys) (length xs + i) a ≡ xs ++ set ys i a
+set-past [] ys i a = ap (λ (k : ℕ). set ys k a) (zero-add i)
+set-past {X} (x ∷ xs) ys i a = ap (λ (k : ℕ). set (x ∷ (xs ++ ys)) k a) (suc-add (length xs) i) ∙ ap (λ (l : List X). x ∷ l) (set-past xs ys i a)
+
+overlaid-set : {X : Type 0} (at : ℕ) (xs l : List X) (i : ℕ) (a : X) → at ≤ length l → i < length xs → overlaid at (set xs i a) l ≡ set (overlaid at xs l) (at + i) a
+overlaid-set {X} at xs l i a h q =
+    rw (length-set xs i a)
+    (sym (rw (length-take-le at l h) at (set-past (take at l) (xs ++ drop (at + length xs) l) i a) ∙ ap (λ (r : List X). take at l ++ r) (set-append-left xs (drop (at + length xs) l) i a q)))
+
+-- a machine with one number changed, written into a row: the machine is written, and the number stored in its place
+module _ (row : List ℕ) (long : length row ≡ 807) (m : Machine) (z : Sized m) where
+  changed-set : (next : Machine) (i k x : ℕ) → i < 801 → k ≡ 6 + i → changing next ≡ set (changing m) i x → changed row next ≡ set (changed row m) k x
+  unfolding changed
+  changed-set next i k x h q e = ap (λ (xs : List ℕ). overlaid 6 xs row) e ∙ rw q (overlaid-set 6 (changing m) row i x (omega arith) (omega (arith, changing-length m z)))
+
+  changed-phase : (x : ℕ) → changed row (withPhase m x) ≡ set (changed row m) 6 x
+  unfolding changing
+  changed-phase x = changed-set (withPhase m x) 0 6 x (omega arith) (omega arith) refl
+
+  changed-mark : (s x : ℕ) → s < 256 → changed row (withMark m s x) ≡ set (changed row m) (7 + s) x
+  unfolding changing
+  changed-mark s x h =
+      changed-set (withMark m s x) (suc s) (7 + s) x (omega arith) (omega arith)
+      (ap (λ (xs : List ℕ). m .phase ∷ xs) (sym (set-append-left (m .mark) _ s x (omega (arith, z .marks)))))
+
+  changed-held : (w x : ℕ) → w < 32 → changed row (withHands m (set (m .held) w x)) ≡ set (changed row m) (775 + w) x
+  unfolding changing
+  changed-held w x h =
+      let front = m .phase ∷ (m .mark ++ (m .label ++ m .via)) in
+      let joined : (xs : List ℕ) → front ++ xs ≡ m .phase ∷ (m .mark ++ (m .label ++ (m .via ++ xs))) = λ xs. simp append-assoc in
+      let l : length front ≡ 769 = simp length-append (omega (arith, z .marks, z .labels, z .vias)) in
+      changed-set (withHands m (set (m .held) w x)) (769 + w) (775 + w) x (omega arith) (omega arith)
+      (sym (joined (set (m .held) w x)) ∙ sym (rw l at (set-past front (m .held) w x)) ∙ ap (λ (xs : List ℕ). set xs (769 + w) x) (joined (m .held)))
+
+-- what a Take changes of the machine that a row holds, stored in the row
+module _ (row : List ℕ) (e : isRow row ≡ true) where
+  held-sized : Sized (unpacked row)
+  unfolding unpacked
+  held-sized = record { marks = part-length row 7 256; labels = part-length row 263 256; vias = part-length row 519 256; workers = part-length row 775 32 }
+
+  pub put-phase : (x : ℕ) → set row 6 x ≡ changed row (withPhase (unpacked row) x)
+  put-phase x = sym (changed-phase row (row-bounds row e .long) (unpacked row) held-sized x ∙ ap (λ (r : List ℕ). set r 6 x) (changed-unpacked row e))
+
+  pub put-dealt : (worker s : ℕ) → s < 256 → worker < 32 → set (set row (7 + s) out) (775 + worker) s ≡ changed row (dealt (unpacked row) (handsOf (unpacked row)) worker s)
+  put-dealt worker s h w =
+      let z = held-sized in
+      let l = row-bounds row e .long in
+      let marked : changed row (withMark (unpacked row) s out) ≡ set row (7 + s) out = changed-mark row l (unpacked row) z s out h ∙ ap (λ (r : List ℕ). set r (7 + s) out) (changed-unpacked row e) in
+      let sized : Sized (withMark (unpacked row) s out) = record { marks = length-set (unpacked row .mark) s out ∙ z .marks; labels = z .labels; vias = z .vias; workers = z .workers } in
+      sym (changed-held row l (withMark (unpacked row) s out) sized worker s w ∙ ap (λ (r : List ℕ). set r (775 + worker) s) marked)
+
+-- a Take of which what its reply tells was written, and a refused call after which nothing was
+module _ (row passages estimates : List ℕ) (e : isRow row ≡ true) (given : Answer) (code : ℕ) (q : code ≡ codeOf (given .reply)) where
+  pub turn-told : (worker : ℕ) (next : List ℕ) → given ≡ takeOf (unpacked row) passages estimates worker → next ≡ changed row (taken (unpacked row) worker (given .reply))
+      → (code ≡ takeRow row passages estimates worker .code) × (next ≡ takeRow row passages estimates worker .row)
+  turn-told worker next g n = turn-made row next given (takeOf (unpacked row) passages estimates worker) code e g q (n ∙ ap (changed row) (sym (rw g (take-told (unpacked row) passages estimates worker))))
+
+  pub turn-refused : (v : Event) (number : ℕ) → given ≡ call passages estimates (unpacked row) v → given .reply ≡ Refused number
+      → (code ≡ turnOf row (call passages estimates (unpacked row) v) .code) × (row ≡ turnOf row (call passages estimates (unpacked row) v) .row)
+  turn-refused v number g r =
+      let still : given .machine ≡ unpacked row = rw g (call-refused (unpacked row) passages estimates v number (rw g at r)) in
+      turn-made row row given (call passages estimates (unpacked row) v) code e g q (sym (ap (changed row) still ∙ changed-unpacked row e))

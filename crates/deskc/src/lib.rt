@@ -58,8 +58,7 @@ pub extern "C" fn desk_take(
     let m = row::unpack(machine);
     let answer = m.take(passages, estimates, worker);
     let reply = answer.reply;
-    let next = answer.machine;
-    row::put_changing(machine, next);
+    row::put_taken(machine, worker, reply);
     desk::code(reply)
 }
 
@@ -79,6 +78,9 @@ pub extern "C" fn desk_bring(
     let m = row::unpack(machine);
     let answer = m.bring(passages, estimates, worker);
     let reply = answer.reply;
+    if let Reply::Refused(_) = reply {
+        return desk::code(reply);
+    }
     let next = answer.machine;
     row::put_changing(machine, next);
     desk::code(reply)

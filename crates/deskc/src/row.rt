@@ -5,9 +5,10 @@ ghost use mathlib.Core.List.{[], _∷_};
 ghost use Prim.Native.Nat.{ℕ, _+_, _≤_, _<_};
 ghost use lib.ListN.{length};
 ghost use Rattle.laws.specs.Part.{overlaid};
-ghost use Rattle.desk.specs.declared.Reply.the-variants.{Refused};
+ghost use Rattle.desk.specs.declared.Reply.the-variants.{Took, Refused};
 ghost use Rattle.rule.specs.Refusals.{unfit};
 ghost use Rattle.desk.specs.Reply.{codeOf};
+ghost use Rattle.desk.specs.ToldLaws.{taken};
 ghost use Rattle.deskc.specs.Row.{atMost, isRow, part, unpacked, changed};
 use desk::Machine;
 use desk::Reply;
@@ -191,6 +192,27 @@ pub fn put_changing(row: &mut [u32], m: Machine)
     put_labels(row, &m.label);
     put_vias(row, &m.via);
     put_held(row, &m.held);
+}
+
+// What a Take changes: the mark of the state that it deals and what the worker holds, or the phase. With any other reply nothing is written.
+pub fn put_taken(row: &mut [u32], worker: usize, reply: Reply)
+    requires { ⌜ (isRow (now row) ≡ true) × ((s : ℕ) → reply ≡ Took s → (s < 256) × (worker < 32)) ⌝ }
+    ensures { λ _. ⌜ now (row .exit) ≡ changed (now (row .entry)) (taken (unpacked (now (row .entry))) worker reply) ⌝ }
+{
+    match reply {
+        Reply::Took(s) => {
+            let state = rule::wide(s);
+            row[7 + state] = wide8(rule::OUT);
+            row[775 + worker] = wide16(s);
+        }
+        Reply::Found(_) => {
+            row[6] = 1;
+        }
+        Reply::NoPath => {
+            row[6] = 2;
+        }
+        _ => {}
+    }
 }
 
 // What a call can't change: the task's six numbers.

@@ -49,6 +49,9 @@ is-open = (λ κs a. tt, λ κs a x y p q i. (same p q i, x .1))
 pub is-closed : Answers f.cells.is_closed.ended f.cells.is_closed.Reads.Asked f.cells.is_closed.Reads.Learnt
 is-closed = (λ κs a. tt, λ κs a x y p q i. (same p q i, x .1))
 
+pub row-right : Fixes f.cells.row_right.ended f.cells.row_right.Reads.Learnt
+row-right κs a x y p q i = (same p q i, x .1)
+
 pub rows-right : Fixes f.cells.rows_right.ended f.cells.rows_right.Reads.Learnt
 rows-right κs a x y p q i = (same p q i, x .1)
 
@@ -59,7 +62,10 @@ pub count-open : Fixes f.cells.count_open.ended f.cells.count_open.Reads.Learnt
 count-open κs a x y p q i = (same p q i, x .1)
 
 pub put-cells : Fixes f.cells.put_cells.ended f.cells.put_cells.Reads.Learnt
-put-cells κs a x y p q i = (tt, (tt, (tt, (same p q i, tt))))
+put-cells κs a x y p q i = (same (p .0) (q .0) i, (tt, (tt, (same (p .1) (q .1) i, tt))))
+
+pub put-spots : Fixes f.cells.put_spots.ended f.cells.put_spots.Reads.Learnt
+put-spots κs a x y p q i = (tt, (tt, (tt, (tt, (same (p .0) (q .0) i, (same (p .1) (q .1) i, tt))))))
 
 -- neighbours.rt
 pub free : Fixes f.neighbours.free.ended f.neighbours.free.Reads.Learnt
@@ -83,24 +89,24 @@ is-passage κs a x y p q i = (same p q i, x .1)
 pub leads-to : Fixes f.neighbours.leads_to.ended f.neighbours.leads_to.Reads.Learnt
 leads-to κs a x y p q i = (same (p .0) (q .0) i, x .1)
 
-pub state-of : Answers f.neighbours.state_of.ended f.neighbours.state_of.Reads.Asked f.neighbours.state_of.Reads.Learnt
-state-of = (λ κs a. tt, λ κs a x y p q i. (same p q i, x .1))
+pub state-of : Fixes f.neighbours.state_of.ended f.neighbours.state_of.Reads.Learnt
+state-of κs a x y p q i = (same p q i, x .1)
 
 pub count-passages : Fixes f.neighbours.count_passages.ended f.neighbours.count_passages.Reads.Learnt
 count-passages κs a x y p q i = (same (p .0) (q .0) i, x .1)
 
 pub put-passages : Fixes f.neighbours.put_passages.ended f.neighbours.put_passages.Reads.Learnt
-put-passages κs a x y p q i = (tt, (tt, (tt, (tt, (same p q i, tt)))))
+put-passages κs a x y p q i = (tt, (tt, (tt, (tt, (tt, (tt, (same p q i, tt)))))))
 
 -- gaps.rt
 pub gap : Answers f.gaps.gap.ended f.gaps.gap.Reads.Asked f.gaps.gap.Reads.Learnt
 gap = (λ κs a. tt, λ κs a x y p q i. (same p q i, x .1))
 
-pub octile : Fixes f.gaps.octile.ended f.gaps.octile.Reads.Learnt
-octile κs a x y p q i = (same (p .0) (q .0) i, x .1)
+pub octile : Answers f.gaps.octile.ended f.gaps.octile.Reads.Asked f.gaps.octile.Reads.Learnt
+octile = (λ κs a. tt, λ κs a x y p q i. (same p q i, x .1))
 
-pub between : Fixes f.gaps.between.ended f.gaps.between.Reads.Learnt
-between κs a x y p q i = (same p q i, x .1)
+pub put-estimates-from : Fixes f.gaps.put_estimates_from.ended f.gaps.put_estimates_from.Reads.Learnt
+put-estimates-from κs a x y p q i = (tt, (tt, (tt, (tt, (tt, (same p q i, tt))))))
 
 pub put-estimates : Fixes f.gaps.put_estimates.ended f.gaps.put_estimates.Reads.Learnt
 put-estimates κs a x y p q i = (tt, (tt, (tt, (same p q i, tt))))

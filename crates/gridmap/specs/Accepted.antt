@@ -9,8 +9,6 @@ use lib.ListN.{length, take}
 use lib.Dec.{eqb}
 use borrow.Author.Tests.{eqb-true}
 use Rattle.laws.specs.Truth.{provided}
-use Rattle.laws.specs.Part.{overlaid}
-use Rattle.laws.specs.Fill.{overlaid-front}
 use Rattle.rule.specs.Task.{passageCount, near, far, cost}
 use Rattle.checks.specs.Opening.{task, passagesRight, estimatesRight, passagesBound, detoursBound, holds1, holds2, holds3, fault}
 use Rattle.gridmap.specs.declared.Survey.the-variants.{Drawn}
@@ -23,6 +21,7 @@ use Rattle.gridmap.specs.HeadLaws.{height-most, width-most}
 use Rattle.gridmap.specs.CellLaws.{cell-state}
 use Rattle.gridmap.specs.EstimateLaws.{estimates-length}
 use Rattle.gridmap.specs.PassageLaws.{passages-length, passages-most, mirrored-by}
+use Rattle.gridmap.specs.RowLaws.{front-is}
 use Rattle.gridmap.specs.CheckLaws.{right-four, right-five, right-six, right-seven}
 use Rattle.gridmap.specs.ReadingLaws.{map-is}
 use Rattle.gridmap.specs.SpotLaws.{spot-is, spot-of, placed-standing, standing-is, standing-state, standing-placed}
@@ -87,16 +86,13 @@ reader-opens text passages estimates n many q k start goal pull excess = go (eqb
     Opens : MapReading → Type 0
     Opens r = r .reply ≡ Drawn n many → fault (task n k start goal pull excess (take (3 * many) (r .passages)) (take (n * n) (r .estimates))) ≤ 3
 
-    front : (xs l : List ℕ) (w : ℕ) → length xs ≡ w → take w (overlaid 0 xs l) ≡ xs
-    front xs l w e = rw (← e) (overlaid-front xs l)
-
     go : (b : Bool) → eqb (mapFault text) 0 ≡ b → (c : Bool) → Opens (provided b (mapRefused passages estimates (mapFault text)) (provided c (mapRefused passages estimates 34) (drawn m passages estimates)))
     go true e true d =
         let f = eqb-true (mapFault text) 0 e in
         let r = map-right text f in
         let a : stateCount m ≡ n = cc in
         let b : passagesMany m ≡ many = cc in
-        rw (← a, ← b, front (passagesOf m) passages (3 * passagesMany m) (r .listed), front (estimatesOf m) estimates (stateCount m * stateCount m) (r .table)) (map-opens text f k start goal pull excess)
+        rw (← a, ← b, front-is (passagesOf m) passages _ refl (3 * passagesMany m) (r .listed), front-is (estimatesOf m) estimates _ refl (stateCount m * stateCount m) (r .table)) (map-opens text f k start goal pull excess)
     go true e false d = let z : _≡_ {A = ℕ} 0 1 = cc in absurd (omega arith)
     go false e c d = let z : _≡_ {A = ℕ} 0 1 = cc in absurd (omega arith)
 

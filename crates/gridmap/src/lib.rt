@@ -38,18 +38,23 @@ pub fn read_map(text: &[u8], passages: &mut [u32], estimates: &mut [u32]) -> Sur
         return Survey::Refused(number);
     }
     let head = header::head_of(text);
-    let n = cells::count_open(text, head);
-    let mut row = [0u32; 256];
-    cells::put_cells(text, head, &mut row);
-    let many = neighbours::count_passages(text, head, &row[..n]);
+    let mut cell = [0u32; 256];
+    let n = cells::put_cells(text, head, &mut cell);
+    let mut rows = [0u16; 256];
+    let mut columns = [0u16; 256];
+    let cell = &cell[..n];
+    cells::put_spots(text, head, cell, &mut rows, &mut columns);
+    let rows = &rows[..n];
+    let columns = &columns[..n];
+    let many = neighbours::count_passages(text, head, rows, columns);
     if passages.len() < 3 * many {
         return Survey::Refused(34);
     }
     if estimates.len() < n * n {
         return Survey::Refused(34);
     }
-    neighbours::put_passages(text, head, &row[..n], passages);
-    gaps::put_estimates(head.width + 1, &row[..n], estimates);
+    neighbours::put_passages(text, head, cell, rows, columns, passages);
+    gaps::put_estimates(rows, columns, estimates);
     Survey::Drawn(n as u32, many as u32)
 }
 
@@ -61,13 +66,12 @@ pub fn spot_of(text: &[u8], state: usize) -> Spot
         return Spot::Nowhere;
     }
     let head = header::head_of(text);
-    let n = cells::count_open(text, head);
+    let mut cell = [0u32; 256];
+    let n = cells::put_cells(text, head, &mut cell);
     if state >= n {
         return Spot::Nowhere;
     }
-    let mut row = [0u32; 256];
-    cells::put_cells(text, head, &mut row);
-    let place = row[state] as usize;
+    let place = cell[state] as usize;
     Spot::At(
         (place / (head.width + 1)) as u16,
         (place % (head.width + 1)) as u16,

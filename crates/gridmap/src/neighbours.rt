@@ -2,13 +2,12 @@
 ghost use mathlib.Core.Path.{_≡_};
 ghost use mathlib.Core.Bool.{true};
 ghost use Prim.Native.Nat.{_+_, _*_, _≤_, _<_};
-ghost use lib.ListN.{length, getD};
-ghost use lib.Dec.{eqb};
+ghost use lib.ListN.{length};
 ghost use Rattle.laws.specs.First.{first};
 ghost use Rattle.laws.specs.Part.{overlaid};
 ghost use Rattle.gridmap.specs.Map.{cells};
 ghost use Rattle.gridmap.specs.Passages.{free, rowTo, columnTo, linked, costTo, isPassage, leadsTo, passagesOf, passagesMany};
-ghost use Rattle.gridmap.specs.Laws.{mapWith, Small};
+ghost use Rattle.gridmap.specs.Laws.{mapWith, Small, Spots, Ascending, holds};
 use super::Head;
 use super::cells;
 use super::header;
@@ -98,51 +97,58 @@ pub fn cost_to(d: usize) -> u32
 }
 
 // Whether the j-th of all neighbours is the end of a passage.
-pub fn is_passage(text: &[u8], h: Head, row: &[u32], j: usize) -> bool
-    requires { ⌜ Small h × ((now row ≡ cells (mapWith (now text) h)) × (j < 8 * length (now row))) ⌝ }
+pub fn is_passage(text: &[u8], h: Head, rows: &[u16], columns: &[u16], j: usize) -> bool
+    requires { ⌜ Small h × (Spots (mapWith (now text) h) (now rows) (now columns) × (j < 8 * length (now rows))) ⌝ }
     ensures { λ r. ⌜ r ≡ isPassage (mapWith (now (text .entry)) h) j ⌝ }
 {
-    let place = row[j / 8] as usize;
-    is_linked(
-        text,
-        h,
-        place / (h.width + 1) + 1,
-        place % (h.width + 1) + 1,
-        j % 8,
-    )
+    let y = rows[j / 8] as usize + 1;
+    let x = columns[j / 8] as usize + 1;
+    is_linked(text, h, y, x, j % 8)
 }
 
 // The state that the j-th of all neighbours is.
-pub fn leads_to(text: &[u8], h: Head, row: &[u32], j: usize) -> usize
-    requires { ⌜ Small h × ((now row ≡ cells (mapWith (now text) h)) × ((j < 8 * length (now row)) × (isPassage (mapWith (now text) h) j ≡ true))) ⌝ }
-    ensures { λ r. ⌜ (r ≡ leadsTo (mapWith (now (text .entry)) h) j) × (r < length (now (row .entry))) ⌝ }
+pub fn leads_to(
+    text: &[u8],
+    h: Head,
+    cell: &[u32],
+    rows: &[u16],
+    columns: &[u16],
+    j: usize,
+) -> usize
+    requires { ⌜ Small h × ((now cell ≡ cells (mapWith (now text) h)) × (Spots (mapWith (now text) h) (now rows) (now columns) × ((j < 8 * length (now rows)) × (isPassage (mapWith (now text) h) j ≡ true)))) ⌝ }
+    ensures { λ r. ⌜ (r ≡ leadsTo (mapWith (now (text .entry)) h) j) × (r < length (now (rows .entry))) ⌝ }
 {
-    let place = row[j / 8] as usize;
-    let y = row_to(j % 8, place / (h.width + 1) + 1);
-    let x = column_to(j % 8, place % (h.width + 1) + 1);
-    state_of(row, ((y - 1) * (h.width + 1) + (x - 1)) as u32)
+    let y = row_to(j % 8, rows[j / 8] as usize + 1);
+    let x = column_to(j % 8, columns[j / 8] as usize + 1);
+    state_of(cell, (y - 1) * (h.width + 1) + (x - 1))
 }
 
-// The first place of the row that holds a number; the row's length where none does.
-pub fn state_of(row: &[u32], place: u32) -> usize
-    ensures { λ r. ⌜ r ≡ first (λ i. eqb (getD (now (row .entry)) i 0) place) (length (now (row .entry))) ⌝ }
+// The first place of an ascending row that holds a number which it has, found by halving.
+pub fn state_of(cell: &[u32], place: usize) -> usize
+    requires { ⌜ Ascending (now cell) × (first (holds (now cell) place) (length (now cell)) < length (now cell)) ⌝ }
+    ensures { λ r. ⌜ r ≡ first (holds (now (cell .entry)) place) (length (now (cell .entry))) ⌝ }
 {
-    for i in 0..row.len() {
-        if row[i] == place {
-            return i;
+    let mut low: usize = 0;
+    let mut high = cell.len();
+    while low < high {
+        let middle = (low + high) / 2;
+        if (cell[middle] as usize) < place {
+            low = middle + 1;
+        } else {
+            high = middle;
         }
     }
-    row.len()
+    low
 }
 
 // How many passages there are.
-pub fn count_passages(text: &[u8], h: Head, row: &[u32]) -> usize
-    requires { ⌜ Small h × ((now row ≡ cells (mapWith (now text) h)) × (length (now row) ≤ 256)) ⌝ }
+pub fn count_passages(text: &[u8], h: Head, rows: &[u16], columns: &[u16]) -> usize
+    requires { ⌜ Small h × (Spots (mapWith (now text) h) (now rows) (now columns) × (length (now rows) ≤ 256)) ⌝ }
     ensures { λ r. ⌜ (r ≡ passagesMany (mapWith (now (text .entry)) h)) × (r ≤ 2048) ⌝ }
 {
     let mut many: usize = 0;
-    for j in 0..8 * row.len() {
-        if is_passage(text, h, row, j) {
+    for j in 0..8 * rows.len() {
+        if is_passage(text, h, rows, columns, j) {
             many += 1;
         }
     }
@@ -150,15 +156,22 @@ pub fn count_passages(text: &[u8], h: Head, row: &[u32]) -> usize
 }
 
 // The passages, each from, to, cost.
-pub fn put_passages(text: &[u8], h: Head, row: &[u32], passages: &mut [u32])
-    requires { ⌜ Small h × ((now row ≡ cells (mapWith (now text) h)) × ((length (now row) ≤ 256) × (3 * passagesMany (mapWith (now text) h) ≤ length (now passages)))) ⌝ }
+pub fn put_passages(
+    text: &[u8],
+    h: Head,
+    cell: &[u32],
+    rows: &[u16],
+    columns: &[u16],
+    passages: &mut [u32],
+)
+    requires { ⌜ Small h × ((now cell ≡ cells (mapWith (now text) h)) × (Spots (mapWith (now text) h) (now rows) (now columns) × ((length (now rows) ≤ 256) × (3 * passagesMany (mapWith (now text) h) ≤ length (now passages))))) ⌝ }
     ensures { λ _. ⌜ now (passages .exit) ≡ overlaid 0 (passagesOf (mapWith (now (text .entry)) h)) (now (passages .entry)) ⌝ }
 {
     let mut next: usize = 0;
-    for j in 0..8 * row.len() {
-        if is_passage(text, h, row, j) {
+    for j in 0..8 * rows.len() {
+        if is_passage(text, h, rows, columns, j) {
             passages[next] = (j / 8) as u32;
-            passages[next + 1] = leads_to(text, h, row, j) as u32;
+            passages[next + 1] = leads_to(text, h, cell, rows, columns, j) as u32;
             passages[next + 2] = cost_to(j % 8);
             next += 3;
         }

@@ -8,7 +8,7 @@ use denote.Ref.{now}
 use borrow.Author.Needs.{needs}
 use Rattle.laws.specs.First.{first, first-zero, first-more}
 use Rattle.dealing.specs.Board.{Board, board, dependsOn, key}
-use Rattle.dealing.specs.Laws.{depends-self, depends-other, safe-passed, key-is, Leads, leads-zero, leads-shut, leads-lost, leads-behind, leads-front, leads-safe, leads-chosen, leads-stopped, leads-none}
+use Rattle.dealing.specs.Laws.{depends-self, depends-dead, depends-other, safe-passed, key-is, Leads, leads-zero, leads-shut, leads-lost, leads-behind, leads-front, leads-safe, leads-chosen, leads-stopped, leads-none}
 use Rattle.dealing.proofs.choose.Statement.{statement}
 use Rattle.dealing.proofs.choose.Tie as tie
 
@@ -40,9 +40,9 @@ its-key c = key-is _ _ _ _ _ _ (c .key .ensures) (c .before .estimate .ensures)
 
 -- where the test stops, the candidate depends on t
 held :
-    (c : tie.Then5 Inv-loop μ-loop Inv-candidates μ-candidates)
-    → dependsOn (lent (c .before .before .before .before .before .before .before .before .before .before .before .before .before .before .before .before .before)) (c .before .before .before .before .before .before .before .before .before .before .before .before .before .before .before .candidates .next) (c .before .before .before .before .before .before .before .loop .t) ≡ true
-held c = depends-other _ _ _ _ true (c .before .before .before .before .before .if4 .taken) (c .before .before .before .before .estimate2 .ensures) (sym (c .if5 .taken) ∙ c .before .holds-back .ensures)
+    (c : tie.Then6 Inv-loop μ-loop Inv-candidates μ-candidates)
+    → dependsOn (lent (c .before .before .before .before .before .before .before .before .before .before .before .before .before .before .before .before .before .before .before .before)) (c .before .before .before .before .before .before .before .before .before .before .before .before .before .before .before .before .before .before .candidates .next) (c .before .before .before .before .before .before .before .before .before .before .loop .t) ≡ true
+held c = depends-other _ _ _ _ true (c .before .before .before .before .before .if5 .taken) (c .before .before .before .before .estimate2 .ensures) (sym (c .if6 .taken) ∙ c .before .holds-back .ensures)
 
 candidates-holds : tie.Need-candidates-holds Inv-loop μ-loop Inv-candidates μ-candidates
 candidates-holds c = (search needs, leads-zero _ _ _ _ _ _)
@@ -87,6 +87,13 @@ loop-holds c =
     let o = c .before .before .before .before .before .before .before .candidates in
     (search needs, o .inv .1, first-zero _)
 
+element-copy-out-is-live :
+    tie.Need-element-copy-out-is-live Inv-loop μ-loop Inv-candidates μ-candidates
+element-copy-out-is-live c = search needs
+
+is-live-requires : tie.Need-is-live-requires Inv-loop μ-loop Inv-candidates μ-candidates
+is-live-requires c κs = search needs
+
 estimate-requires-2 : tie.Need-estimate-requires-2 Inv-loop μ-loop Inv-candidates μ-candidates
 estimate-requires-2 c κs = search needs
 
@@ -109,11 +116,11 @@ candidates-less-3 c = search needs
 
 candidates-again-3 : tie.Need-candidates-again-3 Inv-loop μ-loop Inv-candidates μ-candidates
 candidates-again-3 c =
-    let l = c .before .before .before .before .before .before .before .before .before .loop in (
+    let l = c .before .before .before .before .before .before .before .before .before .before .before .before .loop in (
       search needs,
       leads-behind _ _ _ _ _ _ _ _ _ (l .inv .1)
-          (l .t) (l .inv .2) (held (c .before .before)) (c .before .before .before .before .before .before .before .before .loop-test .taken)
-          (c .before .if6 .taken) (omega (arith, its-key (c .before .before .before .before .before .before .before .before .before .before .before), c .if7 .taken)),
+          (l .t) (l .inv .2) (held (c .before .before)) (c .before .before .before .before .before .before .before .before .before .before .before .loop-test .taken)
+          (c .before .if7 .taken) (omega (arith, its-key (c .before .before .before .before .before .before .before .before .before .before .before .before .before .before), c .if8 .taken)),
     )
 
 candidates-less-4 : tie.Need-candidates-less-4 Inv-loop μ-loop Inv-candidates μ-candidates
@@ -121,13 +128,13 @@ candidates-less-4 c = search needs
 
 candidates-again-4 : tie.Need-candidates-again-4 Inv-loop μ-loop Inv-candidates μ-candidates
 candidates-again-4 c =
-    let l = c .before .before .before .before .before .before .before .before .before .loop in (
+    let l = c .before .before .before .before .before .before .before .before .before .before .before .before .loop in (
       search needs,
-      rw (its-key (c .before .before .before .before .before .before .before .before .before .before .before))
+      rw (its-key (c .before .before .before .before .before .before .before .before .before .before .before .before .before .before))
           (leads-front _ _ _ _ _ _ _ _ _ (l .inv .1)
-          (l .t) (l .inv .2) (held (c .before .before)) (c .before .before .before .before .before .before .before .before .loop-test .taken)
-          (c .before .before .before .before .before .before .before .before .before .before .before .before .before .before .if1 .left)
-          (inr (c .before .if6 .taken, rw (its-key (c .before .before .before .before .before .before .before .before .before .before .before)) at (c .if7 .left)))),
+          (l .t) (l .inv .2) (held (c .before .before)) (c .before .before .before .before .before .before .before .before .before .before .before .loop-test .taken)
+          (c .before .before .before .before .before .before .before .before .before .before .before .before .before .before .before .before .before .if1 .left)
+          (inr (c .before .if7 .taken, rw (its-key (c .before .before .before .before .before .before .before .before .before .before .before .before .before .before)) at (c .if8 .left)))),
     )
 
 candidates-less-5 : tie.Need-candidates-less-5 Inv-loop μ-loop Inv-candidates μ-candidates
@@ -135,12 +142,12 @@ candidates-less-5 c = search needs
 
 candidates-again-5 : tie.Need-candidates-again-5 Inv-loop μ-loop Inv-candidates μ-candidates
 candidates-again-5 c =
-    let l = c .before .before .before .before .before .before .before .before .loop in (
+    let l = c .before .before .before .before .before .before .before .before .before .before .before .loop in (
       search needs,
-      rw (its-key (c .before .before .before .before .before .before .before .before .before .before))
+      rw (its-key (c .before .before .before .before .before .before .before .before .before .before .before .before .before))
           (leads-front _ _ _ _ _ _ _ _ _ (l .inv .1)
-          (l .t) (l .inv .2) (held (c .before)) (c .before .before .before .before .before .before .before .loop-test .taken)
-          (c .before .before .before .before .before .before .before .before .before .before .before .before .before .if1 .left) (inl (c .if6 .left))),
+          (l .t) (l .inv .2) (held (c .before)) (c .before .before .before .before .before .before .before .before .before .before .loop-test .taken)
+          (c .before .before .before .before .before .before .before .before .before .before .before .before .before .before .before .before .if1 .left) (inl (c .if7 .left))),
     )
 
 add-t : tie.Need-add-t Inv-loop μ-loop Inv-candidates μ-candidates
@@ -151,13 +158,16 @@ loop-less c = search needs
 
 loop-again : tie.Need-loop-again Inv-loop μ-loop Inv-candidates μ-candidates
 loop-again c =
-    let l = c .before .before .loop in (
+    let l = c .before .before .before .before .loop in (
       search needs,
       l .inv .1,
       first-more _ (l .t) (l .inv .2)
           (⊎-elim
-          (λ w. depends-other _ _ (l .t) _ false (w .0 .taken) (w .1 .ensures) (sym (w .5 .left) ∙ w .4 .ensures))
-          (λ w. depends-self _ _ (l .t) (w .left))
+          (λ w. depends-other _ _ (l .t) _ false (w .1 .taken) (w .2 .ensures) (sym (w .6 .left) ∙ w .5 .ensures))
+          (λ v. ⊎-elim
+          (λ w. depends-self _ _ (l .t) (w .1 .left))
+          (λ w. depends-dead _ _ (l .t) (sym (c .before .is-live .ensures) ∙ w .left))
+          v)
           (c .if4 .came)),
     )
 
@@ -177,17 +187,17 @@ candidates-again-6 c =
 returns : tie.Need-returns Inv-loop μ-loop Inv-candidates μ-candidates
 returns c =
     let o = c .before .before .before .candidates in
-    leads-stopped _ _ _ _ _ _ _ _ _ (o .inv .1) (o .inv .0) (c .before .before .candidates-test .left) (c .before .if8 .taken) (c .if9 .taken)
+    leads-stopped _ _ _ _ _ _ _ _ _ (o .inv .1) (o .inv .0) (c .before .before .candidates-test .left) (c .before .if9 .taken) (c .if10 .taken)
 
 returns-2 : tie.Need-returns-2 Inv-loop μ-loop Inv-candidates μ-candidates
 returns-2 c =
     let o = c .before .before .before .candidates in
-    leads-none _ _ _ _ _ _ _ _ _ (o .inv .1) (o .inv .0) (c .before .before .candidates-test .left) (c .before .if8 .taken) (c .if9 .left)
+    leads-none _ _ _ _ _ _ _ _ _ (o .inv .1) (o .inv .0) (c .before .before .candidates-test .left) (c .before .if9 .taken) (c .if10 .left)
 
 returns-3 : tie.Need-returns-3 Inv-loop μ-loop Inv-candidates μ-candidates
 returns-3 c =
     let o = c .before .before .candidates in
-    leads-chosen _ _ _ _ _ _ _ _ _ (o .inv .1) (o .inv .0) (c .before .candidates-test .left) (c .if8 .left)
+    leads-chosen _ _ _ _ _ _ _ _ _ (o .inv .1) (o .inv .0) (c .before .candidates-test .left) (c .if9 .left)
 
 pub choose-spec : {M : Type 1} → statement M
 choose-spec =
@@ -209,6 +219,8 @@ choose-spec =
     candidates-less-2
     candidates-again-2
     loop-holds
+    element-copy-out-is-live
+    is-live-requires
     estimate-requires-2
     element-copy-out-holds-back
     mul-holds-back

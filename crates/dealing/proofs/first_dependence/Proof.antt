@@ -6,7 +6,7 @@ use Prim.Native.Nat.{_≤_, _-_}
 use borrow.Author.Needs.{needs}
 use Rattle.laws.specs.First.{first, first-zero, first-more, first-at, first-end}
 use Rattle.dealing.specs.Board.{board, dependsOn, firstDependence}
-use Rattle.dealing.specs.Laws.{depends-self, depends-other}
+use Rattle.dealing.specs.Laws.{depends-self, depends-dead, depends-other}
 use Rattle.dealing.proofs.first_dependence.Statement.{statement}
 use Rattle.dealing.proofs.first_dependence.Tie as tie
 
@@ -24,6 +24,12 @@ element-copy-out-label-s c = search needs
 
 loop-holds : tie.Need-loop-holds Inv-loop μ-loop
 loop-holds c = (search needs, first-zero _)
+
+element-copy-out-is-live : tie.Need-element-copy-out-is-live Inv-loop μ-loop
+element-copy-out-is-live c = search needs
+
+is-live-requires : tie.Need-is-live-requires Inv-loop μ-loop
+is-live-requires c κs = search needs
 
 estimate-requires : tie.Need-estimate-requires Inv-loop μ-loop
 estimate-requires c κs = search needs
@@ -43,9 +49,9 @@ holds-back-requires c κs = search needs
 returns : tie.Need-returns Inv-loop μ-loop
 unfolding firstDependence
 returns c =
-    let l = c .before .before .before .before .before .before .before .loop in
+    let l = c .before .before .before .before .before .before .before .before .before .before .loop in
     first-at _ (l .t) _ (l .inv .1)
-    (depends-other _ _ (l .t) _ true (c .before .before .before .before .before .if1 .taken) (c .before .before .before .before .estimate .ensures) (sym (c .if2 .taken) ∙ c .before .holds-back .ensures))
+    (depends-other _ _ (l .t) _ true (c .before .before .before .before .before .if2 .taken) (c .before .before .before .before .estimate .ensures) (sym (c .if3 .taken) ∙ c .before .holds-back .ensures))
     (search needs)
 
 add-t : tie.Need-add-t Inv-loop μ-loop
@@ -56,12 +62,15 @@ loop-less c = search needs
 
 loop-again : tie.Need-loop-again Inv-loop μ-loop
 loop-again c =
-    let l = c .before .before .loop in (
+    let l = c .before .before .before .before .loop in (
       search needs,
       first-more _ (l .t) (l .inv .1)
           (⊎-elim
-          (λ w. depends-other _ _ (l .t) _ false (w .0 .taken) (w .1 .ensures) (sym (w .5 .left) ∙ w .4 .ensures))
-          (λ w. depends-self _ _ (l .t) (w .left))
+          (λ w. depends-other _ _ (l .t) _ false (w .1 .taken) (w .2 .ensures) (sym (w .6 .left) ∙ w .5 .ensures))
+          (λ v. ⊎-elim
+          (λ w. depends-self _ _ (l .t) (w .1 .left))
+          (λ w. depends-dead _ _ (l .t) (sym (c .before .is-live .ensures) ∙ w .left))
+          v)
           (c .if1 .came)),
     )
 
@@ -80,6 +89,8 @@ first-dependence-spec =
     mul-label-s
     element-copy-out-label-s
     loop-holds
+    element-copy-out-is-live
+    is-live-requires
     estimate-requires
     element-copy-out-holds-back
     mul-holds-back

@@ -1,11 +1,12 @@
--- `desk_bring`: a row that holds no machine is left as it was; else the machine that it holds brings, and what changed is written back.
+-- `desk_bring`: a row that holds no machine is left as it was; else the machine that it holds brings. Refused, it leaves the row; else what changed is written back.
 use mathlib.Core.Path.{_≡_, sym, _∙_}
 use mathlib.Core.Bool.{true}
 use denote.Ref.{now}
 use borrow.Author.Tests.{not-true, not-false}
 use borrow.Author.Needs.{needs}
+use Rattle.desk.specs.Calls.{bring}
 use Rattle.deskc.specs.Row.{isRow}
-use Rattle.deskc.specs.Laws.{row-bounds, turn-unfit, turn-made}
+use Rattle.deskc.specs.Laws.{row-bounds, turn-unfit, turn-made, turn-refused}
 use Rattle.deskc.proofs.desk_bring.Statement.{statement}
 use Rattle.deskc.proofs.desk_bring.Tie as tie
 
@@ -32,8 +33,8 @@ unpack-requires c κs = fit (c .before)
 bring-requires : tie.Need-bring-requires
 bring-requires c κs = search needs
 
-put-changing-requires : tie.Need-put-changing-requires
-put-changing-requires c κs = row-bounds _ (fit (c .before .before .before .before .before)) .long
+enum-told : tie.Need-enum-told
+enum-told c = search needs
 
 code-requires : tie.Need-code-requires
 code-requires c κs = search needs
@@ -43,9 +44,23 @@ same-length-2 c = search needs
 
 returns-2 : tie.Need-returns-2
 returns-2 c =
+    let b = c .before .before .before in
+    turn-refused _ _ _ (fit (b .before .before .before)) _ _ (c .code .ensures) (bring _) _ (rw (b .before .unpack .ensures) at (b .bring .ensures)) (c .before .enum-told .given .1)
+
+put-changing-requires : tie.Need-put-changing-requires
+put-changing-requires c κs = row-bounds _ (fit (c .before .before .before .before .before .before)) .long
+
+code-requires-2 : tie.Need-code-requires-2
+code-requires-2 c κs = search needs
+
+same-length-3 : tie.Need-same-length-3
+same-length-3 c = search needs
+
+returns-3 : tie.Need-returns-3
+returns-3 c =
     let p = c .before .before .before in
-    let t = p .before .before .before in
-    turn-made _ _ _ _ _ (fit (t .before .before .before)) (rw (t .before .unpack .ensures) at (t .bring .ensures)) (c .code .ensures) (p .put-changing .ensures)
+    let b = p .before .before .before .before in
+    turn-made _ _ _ _ _ (fit (b .before .before .before)) (rw (b .before .unpack .ensures) at (b .bring .ensures)) (c .code2 .ensures) (p .put-changing .ensures)
 
 pub desk-bring-spec : {M : Type 1} → statement M
 desk-bring-spec =
@@ -57,7 +72,11 @@ desk-bring-spec =
     returns
     unpack-requires
     bring-requires
-    put-changing-requires
+    enum-told
     code-requires
     same-length-2
-    returns-2)
+    returns-2
+    put-changing-requires
+    code-requires-2
+    same-length-3
+    returns-3)

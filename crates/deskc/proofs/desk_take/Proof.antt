@@ -1,11 +1,12 @@
--- `desk_take`: a row that holds no machine is left as it was; else the machine that it holds takes, and what changed is written back.
+-- `desk_take`: a row that holds no machine is left as it was; else the machine that it holds takes, and what the reply tells of the machine handed back is written.
 use mathlib.Core.Path.{_≡_, sym, _∙_}
 use mathlib.Core.Bool.{true}
 use denote.Ref.{now}
 use borrow.Author.Tests.{not-true, not-false}
 use borrow.Author.Needs.{needs}
+use Rattle.desk.specs.ToldLaws.{take-placed}
 use Rattle.deskc.specs.Row.{isRow}
-use Rattle.deskc.specs.Laws.{row-bounds, turn-unfit, turn-made}
+use Rattle.deskc.specs.Laws.{turn-unfit, turn-told}
 use Rattle.deskc.proofs.desk_take.Statement.{statement}
 use Rattle.deskc.proofs.desk_take.Tie as tie
 
@@ -32,8 +33,11 @@ unpack-requires c κs = fit (c .before)
 take-requires : tie.Need-take-requires
 take-requires c κs = search needs
 
-put-changing-requires : tie.Need-put-changing-requires
-put-changing-requires c κs = row-bounds _ (fit (c .before .before .before .before .before)) .long
+put-taken-requires : tie.Need-put-taken-requires
+put-taken-requires c κs =
+    let t = c .before in
+    let given = rw (t .before .unpack .ensures) at (t .take .ensures) in
+    (fit (t .before .before .before), λ s e. take-placed _ _ _ _ s (rw given at e))
 
 code-requires : tie.Need-code-requires
 code-requires c κs = search needs
@@ -44,8 +48,8 @@ same-length-2 c = search needs
 returns-2 : tie.Need-returns-2
 returns-2 c =
     let p = c .before .before .before in
-    let t = p .before .before .before in
-    turn-made _ _ _ _ _ (fit (t .before .before .before)) (rw (t .before .unpack .ensures) at (t .take .ensures)) (c .code .ensures) (p .put-changing .ensures)
+    let t = p .before .before in
+    turn-told _ _ _ (fit (t .before .before .before)) _ _ (c .code .ensures) _ _ (rw (t .before .unpack .ensures) at (t .take .ensures)) (p .put-taken .ensures)
 
 pub desk-take-spec : {M : Type 1} → statement M
 desk-take-spec =
@@ -57,7 +61,7 @@ desk-take-spec =
     returns
     unpack-requires
     take-requires
-    put-changing-requires
+    put-taken-requires
     code-requires
     same-length-2
     returns-2)

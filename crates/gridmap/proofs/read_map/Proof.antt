@@ -1,7 +1,7 @@
--- Past the refusals the array's front is the cells of the map, which the passages and the estimates are made of.
+-- Past the refusals the arrays' fronts are the cells of the map and their rows and columns, which the passages and the estimates are made of.
 use mathlib.Core.Path.{_≡_, sym, ap, _∙_}
 use mathlib.Core.Bool.{_&&_}
-use Prim.Native.Nat.{ℕ, _*_, _≤_}
+use Prim.Native.Nat.{_*_, _≤_}
 use native.Mathlib.Nat.{mul-le-mul}
 use native.Mathlib.Omega.{arith}
 use lib.ListN.{length, take}
@@ -10,11 +10,11 @@ use borrow.Author.Needs.{needs}
 use borrow.Author.Tests.{le-leb, lt-leb}
 use Rattle.gridmap.specs.Map.{Map, cells, stateCount}
 use Rattle.gridmap.specs.Reading.{mapFault, roomy}
-use Rattle.gridmap.specs.Laws.{mapWith, Small}
+use Rattle.gridmap.specs.Laws.{mapWith, Small, rowsOf, columnsOf, Spots}
 use Rattle.gridmap.specs.HeadLaws.{small-head}
-use Rattle.gridmap.specs.CellLaws.{cells-length, cells-low}
+use Rattle.gridmap.specs.CellLaws.{cells-length}
 use Rattle.gridmap.specs.EstimateLaws.{table-is}
-use Rattle.gridmap.specs.RowLaws.{row-front, row-room}
+use Rattle.gridmap.specs.RowLaws.{front-is, front-room, rows-length, columns-length, spots-of}
 use Rattle.gridmap.specs.ReadingLaws.{map-is, read-refused, read-short, read-drawn}
 use Rattle.gridmap.proofs.read_map.Statement.{statement}
 use Rattle.gridmap.proofs.read_map.Tie as tie
@@ -24,10 +24,13 @@ abbrev start : tie.After-head-of → tie.Start
 start c = c .before .before .before .before .before .before
 
 abbrev head : tie.After-put-cells → tie.After-head-of
-head c = c .before .before .before
+head c = c .before .before
 
-abbrev filled : tie.After-count-passages → tie.After-put-cells
-filled c = c .before .before .before
+abbrev filled : tie.After-put-spots → tie.After-put-cells
+filled c = c .before .before .before .before .before
+
+abbrev placed : tie.After-count-passages → tie.After-put-spots
+placed c = c .before .before .before .before .before
 
 abbrev drawing : tie.After-head-of → Map
 drawing c = mapWith (start c .args .text .now) (c .head-of .result)
@@ -41,28 +44,26 @@ small c = small-head _ (map-is _ (sound (c .before)) .headed) _ (c .head-of .ens
 few : (c : tie.After-head-of) → stateCount (drawing c) ≤ 256
 few c = rw (c .head-of .ensures) (map-is _ (sound (c .before)) .few)
 
-fewer : (c : tie.After-count-open) → c .count-open .result ≤ 256
-fewer c = rw (c .count-open .ensures) (few (c .before))
+fewer : (c : tie.After-put-cells) → c .put-cells .result ≤ 256
+fewer c = omega (arith, c .put-cells .ensures .0, few (head c))
 
--- the array's front, as long as there are cells
-front : (c : tie.After-put-cells) → take (c .before .before .count-open .result) (c .put-cells .last .1 .1 .0) ≡ cells (drawing (head c))
-front c = ap (λ (n : ℕ). take n (c .put-cells .last .1 .1 .0)) (c .before .before .count-open .ensures) ∙ row-front _ _ _ (c .put-cells .ensures)
+-- the arrays' fronts, as long as there are cells
+front : (c : tie.After-put-cells) → take (c .put-cells .result) (c .put-cells .last .1 .1 .0) ≡ cells (drawing (head c))
+front c = front-is _ _ _ (c .put-cells .ensures .1) _ (cells-length (drawing (head c)) ∙ sym (c .put-cells .ensures .0))
 
-room : (c : tie.After-put-cells) → c .before .before .count-open .result ≤ length (c .put-cells .last .1 .1 .0)
-room c = rw (c .before .before .count-open .ensures) (row-room (drawing (head c)) _ _ (c .put-cells .ensures))
+spots : (c : tie.After-put-spots)
+    → Spots (drawing (head (filled c))) (take (filled c .put-cells .result) (c .put-spots .last .1 .1 .1 .0)) (take (filled c .put-cells .result) (c .put-spots .last .1 .1 .1 .1 .0))
+spots c = spots-of _ _ _ _ _ (c .put-spots .ensures .0) (c .put-spots .ensures .1) _ (filled c .put-cells .ensures .0)
 
-long : (c : tie.After-put-cells) → c .before .before .count-open .result ≡ length (take (c .before .before .count-open .result) (c .put-cells .last .1 .1 .0))
-long c = c .before .before .count-open .ensures ∙ sym (ap length (front c) ∙ cells-length _)
-
-short : (c : tie.After-put-cells) → length (take (c .before .before .count-open .result) (c .put-cells .last .1 .1 .0)) ≤ 256
-short c = omega (arith, long c, fewer (c .before .before))
+short : (c : tie.After-put-spots) → length (take (filled c .put-cells .result) (c .put-spots .last .1 .1 .1 .0)) ≤ 256
+short c = omega (arith, spots c .high, few (head (filled c)))
 
 -- the two tests of the lent slices
-tests : (c : tie.After-count-passages) → let s = start (head (filled c)) .args in let n = filled c .before .before .count-open .result in
-    roomy (drawing (head (filled c))) (length (s .passages .now)) (length (s .estimates .now))
+tests : (c : tie.After-count-passages) → let f = filled (placed c) in let s = start (head f) .args in let n = f .put-cells .result in
+    roomy (drawing (head f)) (length (s .passages .now)) (length (s .estimates .now))
     ≡ leb (3 * c .count-passages .result) (length (s .passages .now)) && leb (n * n) (length (s .estimates .now))
 unfolding roomy
-tests c = rw (← c .count-passages .ensures .0, ← filled c .before .before .count-open .ensures)
+tests c = rw (← c .count-passages .ensures .0, ← filled (placed c) .put-cells .ensures .0)
 
 fault-requires : tie.Need-fault-requires
 fault-requires c κs = search needs
@@ -76,23 +77,44 @@ returns c =
 head-of-requires : tie.Need-head-of-requires
 head-of-requires c κs = map-is _ (sound c) .headed
 
-count-open-requires : tie.Need-count-open-requires
-count-open-requires c κs = small c
-
 slice-aggregate-put-cells : tie.Need-slice-aggregate-put-cells
 slice-aggregate-put-cells c = search needs
 
 put-cells-requires : tie.Need-put-cells-requires
-put-cells-requires c κs = (small (c .before .before), few (c .before .before))
+put-cells-requires c κs = (small (c .before), few (c .before))
 
-array-share-prefix-row : tie.Need-array-share-prefix-row
-array-share-prefix-row c = room (c .before)
+array-share-prefix-cell : tie.Need-array-share-prefix-cell
+array-share-prefix-cell c = let f = c .before in front-room (cells (drawing (head f))) _ _ (f .put-cells .ensures .1) _ (cells-length (drawing (head f)) ∙ sym (f .put-cells .ensures .0))
 
-slice-aggregate-count-passages : tie.Need-slice-aggregate-count-passages
-slice-aggregate-count-passages c = long (c .before .before)
+slice-aggregate-cell : tie.Need-slice-aggregate-cell
+slice-aggregate-cell c = let f = c .before .before in f .put-cells .ensures .0 ∙ sym (ap length (front f) ∙ cells-length _)
+
+slice-aggregate-put-spots : tie.Need-slice-aggregate-put-spots
+slice-aggregate-put-spots c = search needs
+
+slice-aggregate-put-spots-2 : tie.Need-slice-aggregate-put-spots-2
+slice-aggregate-put-spots-2 c = search needs
+
+put-spots-requires : tie.Need-put-spots-requires
+put-spots-requires c κs =
+    let f = c .before .before .before .before in
+    let low : length (take (f .put-cells .result) (f .put-cells .last .1 .1 .0)) ≤ 256 = omega (arith, ap length (front f), cells-length (drawing (head f)), few (head f)) in
+    ((small (head f), front f), (low, low))
+
+array-share-prefix-rows : tie.Need-array-share-prefix-rows
+array-share-prefix-rows c = let p = c .before .before in front-room (rowsOf (drawing (head (filled p)))) _ _ (p .put-spots .ensures .0) _ (rows-length _ ∙ sym (filled p .put-cells .ensures .0))
+
+slice-aggregate-rows : tie.Need-slice-aggregate-rows
+slice-aggregate-rows c = let p = c .before .before .before in filled p .put-cells .ensures .0 ∙ sym (spots p .high)
+
+array-share-prefix-columns : tie.Need-array-share-prefix-columns
+array-share-prefix-columns c = let p = c .before .before .before in front-room (columnsOf (drawing (head (filled p)))) _ _ (p .put-spots .ensures .1) _ (columns-length _ ∙ sym (filled p .put-cells .ensures .0))
+
+slice-aggregate-columns : tie.Need-slice-aggregate-columns
+slice-aggregate-columns c = let p = c .before .before .before .before in filled p .put-cells .ensures .0 ∙ sym (spots p .wide)
 
 count-passages-requires : tie.Need-count-passages-requires
-count-passages-requires c κs = (small (c .before .before .before .before .before), (front (c .before .before), short (c .before .before)))
+count-passages-requires c κs = let p = c .before .before .before .before in (small (head (filled p)), (spots p, short p))
 
 mul-if2 : tie.Need-mul-if2
 mul-if2 c = search needs
@@ -100,57 +122,41 @@ mul-if2 c = search needs
 returns-2 : tie.Need-returns-2
 returns-2 c =
     let b = c .before in
-    let h = head (filled b) in
+    let h = head (filled (placed b)) in
     let s = start h .args in
     let q = read-short (s .text .now) (s .passages .now) (s .estimates .now) _ (h .head-of .ensures) (sound (h .before)) (tests b ∙ rw (lt-leb _ _ (c .if2 .taken))) in
     (rw q, (rw q, rw q))
 
 mul-if3 : tie.Need-mul-if3
-mul-if3 c = let h = fewer (filled (c .before) .before .before) in omega (arith, mul-le-mul h h)
+mul-if3 c = let h = fewer (filled (placed (c .before))) in omega (arith, mul-le-mul h h)
 
 returns-3 : tie.Need-returns-3
 returns-3 c =
     let b = c .before .before in
-    let h = head (filled b) in
+    let h = head (filled (placed b)) in
     let s = start h .args in
     let q = read-short (s .text .now) (s .passages .now) (s .estimates .now) _ (h .head-of .ensures) (sound (h .before))
     (tests b ∙ rw (le-leb _ _ (c .before .if2 .left), lt-leb _ _ (c .if3 .taken))) in
     (rw q, (rw q, rw q))
 
-array-share-prefix-row-2 : tie.Need-array-share-prefix-row-2
-array-share-prefix-row-2 c = room (filled (c .before .before))
-
-slice-aggregate-put-passages : tie.Need-slice-aggregate-put-passages
-slice-aggregate-put-passages c = long (filled (c .before .before .before))
-
 put-passages-requires : tie.Need-put-passages-requires
 put-passages-requires c κs =
-    let b = c .before .before .before .before in
-    let f = filled b in
-    (small (head f), (front f, (short f, omega (arith, b .count-passages .ensures .0, c .before .before .before .if2 .left))))
-
-add-put-estimates : tie.Need-add-put-estimates
-add-put-estimates c = omega (arith, small (head (filled (c .before .before .before .before .before .before .before .before))))
-
-array-share-prefix-row-3 : tie.Need-array-share-prefix-row-3
-array-share-prefix-row-3 c = room (filled (c .before .before .before .before .before .before .before .before))
-
-slice-aggregate-put-estimates : tie.Need-slice-aggregate-put-estimates
-slice-aggregate-put-estimates c = long (filled (c .before .before .before .before .before .before .before .before .before))
+    let b = c .before .before .before in
+    let p = placed b in
+    (small (head (filled p)), (front (filled p), (spots p, (short p, omega (arith, b .count-passages .ensures .0, c .before .before .if2 .left)))))
 
 put-estimates-requires : tie.Need-put-estimates-requires
 put-estimates-requires c κs =
-    let e = c .before .before .before .before .before .before .before .before in
-    let f = filled (e .before .before) in
-    let n = f .before .before .count-open .ensures in
-    rw (front f, cells-length (drawing (head f)), ← n)
-    ((omega arith, fewer (f .before .before)), (e .if3 .left, λ i l. cells-low (start (head f) .args .text .now) _ (small (head f)) i (rw n at l)))
+    let e = c .before .before .before .before .before in
+    let p = placed (e .before .before) in
+    let long : length (take (filled p .put-cells .result) (p .put-spots .last .1 .1 .1 .0)) ≡ filled p .put-cells .result = spots p .high ∙ sym (filled p .put-cells .ensures .0) in
+    (spots p .wide ∙ sym (spots p .high), rw long (e .if3 .left))
 
-cast-t25 : tie.Need-cast-t25
-cast-t25 c = omega (arith, fewer (filled (c .before .before .before .before .before .before .before .before .before .before .before .before .before) .before .before))
+cast-t31 : tie.Need-cast-t31
+cast-t31 c = omega (arith, fewer (c .before .before .before .before .before .before .before .before .before .before .before .before .before .before .before .before .before .before .before .before))
 
-cast-t26 : tie.Need-cast-t26
-cast-t26 c = search needs
+cast-t32 : tie.Need-cast-t32
+cast-t32 c = search needs
 
 same-length : tie.Need-same-length
 same-length c = search needs
@@ -160,15 +166,15 @@ same-length-2 c = search needs
 
 returns-4 : tie.Need-returns-4
 returns-4 c =
-    let e = c .before .before .before .before .before .before .before .before .before .before .before in
+    let e = c .before .before .before .before .before .before .before .before in
     let b = e .before .before in
-    let f = filled b in
-    let h = head f in
+    let p = placed b in
+    let h = head (filled p) in
     let s = start h .args in
     let q = read-drawn (s .text .now) (s .passages .now) (s .estimates .now) _ (h .head-of .ensures) (sound (h .before))
     (tests b ∙ rw (le-leb _ _ (e .before .if2 .left), le-leb _ _ (e .if3 .left))) in (
-      rw (q, ← f .before .before .count-open .ensures, ← b .count-passages .ensures .0),
-      (rw q (c .before .before .before .before .before .before .before .before .put-passages .ensures), rw (q, ← table-is) (rw (front f) at (c .before .before .put-estimates .ensures))),
+      rw (q, ← filled p .put-cells .ensures .0, ← b .count-passages .ensures .0),
+      (rw q (c .before .before .before .before .before .before .put-passages .ensures), rw (q, ← table-is (drawing h) _ _ (spots p)) (c .before .before .put-estimates .ensures)),
     )
 
 pub read-map-spec : {M : Type 1} → statement M
@@ -178,25 +184,26 @@ read-map-spec =
     fault-requires
     returns
     head-of-requires
-    count-open-requires
     slice-aggregate-put-cells
     put-cells-requires
-    array-share-prefix-row
-    slice-aggregate-count-passages
+    array-share-prefix-cell
+    slice-aggregate-cell
+    slice-aggregate-put-spots
+    slice-aggregate-put-spots-2
+    put-spots-requires
+    array-share-prefix-rows
+    slice-aggregate-rows
+    array-share-prefix-columns
+    slice-aggregate-columns
     count-passages-requires
     mul-if2
     returns-2
     mul-if3
     returns-3
-    array-share-prefix-row-2
-    slice-aggregate-put-passages
     put-passages-requires
-    add-put-estimates
-    array-share-prefix-row-3
-    slice-aggregate-put-estimates
     put-estimates-requires
-    cast-t25
-    cast-t26
+    cast-t31
+    cast-t32
     same-length
     same-length-2
     returns-4)

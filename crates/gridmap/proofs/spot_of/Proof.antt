@@ -5,12 +5,12 @@ use native.Mathlib.Omega.{arith}
 use lib.ListN.{getD}
 use borrow.Author.Needs.{needs}
 use borrow.Author.Tests.{lt-ltb, le-ltb, eq-eqb, ne-eqb}
-use Rattle.gridmap.specs.Map.{Map, cellOf, places, stateCount}
+use Rattle.gridmap.specs.Map.{Map, cells, cellOf, places, stateCount}
 use Rattle.gridmap.specs.Reading.{mapFault, spotOf}
 use Rattle.gridmap.specs.Laws.{mapWith, Small}
 use Rattle.gridmap.specs.HeadLaws.{small-head}
-use Rattle.gridmap.specs.CellLaws.{places-most, cell-in, row-in, column-in}
-use Rattle.gridmap.specs.RowLaws.{row-at}
+use Rattle.gridmap.specs.CellLaws.{places-most, row-in, column-in, cells-length, cell-in}
+use Rattle.gridmap.specs.RowLaws.{front-at}
 use Rattle.gridmap.specs.ReadingLaws.{map-is}
 use Rattle.gridmap.proofs.spot_of.Statement.{statement}
 use Rattle.gridmap.proofs.spot_of.Tie as tie
@@ -20,13 +20,16 @@ abbrev start : tie.After-head-of → tie.Start
 start c = c .before .before .before .before
 
 abbrev head : tie.After-put-cells → tie.After-head-of
-head c = c .before .before .before .before
+head c = c .before .before
+
+abbrev filled : tie.Else2 → tie.After-put-cells
+filled c = c .before .before
 
 abbrev drawing : tie.After-head-of → Map
 drawing c = mapWith (start c .args .text .now) (c .head-of .result)
 
-abbrev place : tie.After-put-cells → ℕ
-place c = getD (c .put-cells .last .1 .1 .0) (start (head c) .args .state) 0
+abbrev place : tie.Else2 → ℕ
+place c = getD (filled c .put-cells .last .1 .1 .0) (start (head (filled c)) .args .state) 0
 
 sound : (c : tie.Else1) → mapFault (c .before .before .before .args .text .now) ≡ 0
 sound c = sym (c .before .fault .ensures) ∙ c .if1 .left
@@ -37,14 +40,14 @@ small c = small-head _ (map-is _ (sound (c .before)) .headed) _ (c .head-of .ens
 few : (c : tie.After-head-of) → stateCount (drawing c) ≤ 256
 few c = rw (c .head-of .ensures) (map-is _ (sound (c .before)) .few)
 
-state-in : (c : tie.Else2) → start (c .before .before) .args .state < stateCount (drawing (c .before .before))
-state-in c = rw (← c .before .count-open .ensures) (c .if2 .left)
+state-in : (c : tie.Else2) → start (head (filled c)) .args .state < stateCount (drawing (head (filled c)))
+state-in c = rw (← filled c .put-cells .ensures .0) (c .if2 .left)
 
-here : (c : tie.After-put-cells) → place c ≡ cellOf (drawing (head c)) (start (head c) .args .state)
-here c = row-at _ _ _ (c .put-cells .ensures) _ (state-in (c .before .before))
+here : (c : tie.Else2) → place c ≡ cellOf (drawing (head (filled c))) (start (head (filled c)) .args .state)
+here c = front-at (cells (drawing (head (filled c)))) _ _ (filled c .put-cells .ensures .1) _ (cells-length _) _ (state-in c)
 
-here-in : (c : tie.After-put-cells) → place c < places (drawing (head c))
-here-in c = rw (here c) (cell-in _ _ (state-in (c .before .before)))
+here-in : (c : tie.Else2) → place c < places (drawing (head (filled c)))
+here-in c = rw (here c) (cell-in _ _ (state-in c))
 
 fault-requires : tie.Need-fault-requires
 fault-requires c κs = search needs
@@ -56,52 +59,51 @@ returns c = rw (← c .before .fault .ensures, ne-eqb _ 0 (c .if1 .taken))
 head-of-requires : tie.Need-head-of-requires
 head-of-requires c κs = map-is _ (sound c) .headed
 
-count-open-requires : tie.Need-count-open-requires
-count-open-requires c κs = small c
-
-returns-2 : tie.Need-returns-2
-unfolding spotOf
-returns-2 c = rw (eq-eqb _ 0 (sound (c .before .before .before)), ← c .before .before .head-of .ensures, ← c .before .count-open .ensures, le-ltb _ _ (c .if2 .taken))
-
 slice-aggregate-put-cells : tie.Need-slice-aggregate-put-cells
 slice-aggregate-put-cells c = search needs
 
 put-cells-requires : tie.Need-put-cells-requires
-put-cells-requires c κs = (small (c .before .before .before), few (c .before .before .before))
+put-cells-requires c κs = (small (c .before), few (c .before))
+
+returns-2 : tie.Need-returns-2
+unfolding spotOf
+returns-2 c =
+    let f = c .before .before in
+    rw (eq-eqb _ 0 (sound (head f .before)), ← head f .head-of .ensures, ← f .put-cells .ensures .0, le-ltb _ _ (c .if2 .taken))
 
 mul-place : tie.Need-mul-place
-mul-place c = omega (arith, state-in (c .before .before .before), few (c .before .before .before .before .before))
+mul-place c = omega (arith, state-in c, few (head (filled c)))
 
 array-read-place : tie.Need-array-read-place
-array-read-place c = omega (arith, state-in (c .before .before .before), few (c .before .before .before .before .before))
+array-read-place c = omega (arith, state-in c, few (head (filled c)))
 
 cast-place : tie.Need-cast-place
-cast-place c = let p = c .before in omega (arith, here-in p, places-most (start (head p) .args .text .now) _ (small (head p)))
+cast-place c = let h = head (filled c) in omega (arith, here-in c, places-most (start h .args .text .now) _ (small h))
 
-add-t12 : tie.Need-add-t12
-add-t12 c = omega (arith, small (head (c .before .before)))
+add-t11 : tie.Need-add-t11
+add-t11 c = omega (arith, small (head (filled (c .before))))
 
-div-t16 : tie.Need-div-t16
-div-t16 c = search needs
+div-t15 : tie.Need-div-t15
+div-t15 c = search needs
 
-cast-t17 : tie.Need-cast-t17
-cast-t17 c = let p = c .before .before in omega (arith, row-in (drawing (head p)) (place p) (here-in p), small (head p))
+cast-t16 : tie.Need-cast-t16
+cast-t16 c = let e = c .before in let h = head (filled e) in omega (arith, row-in (drawing h) (place e) (here-in e), small h)
 
-add-t18 : tie.Need-add-t18
-add-t18 c = omega (arith, small (head (c .before .before .before)))
+add-t17 : tie.Need-add-t17
+add-t17 c = omega (arith, small (head (filled (c .before .before))))
 
-rem-t19 : tie.Need-rem-t19
-rem-t19 c = search needs
+rem-t18 : tie.Need-rem-t18
+rem-t18 c = search needs
 
-cast-t20 : tie.Need-cast-t20
-cast-t20 c = let p = c .before .before .before in omega (arith, column-in (drawing (head p)) (place p), small (head p))
+cast-t19 : tie.Need-cast-t19
+cast-t19 c = let e = c .before .before in let h = head (filled e) in omega (arith, column-in (drawing h) (place e), small h)
 
 returns-3 : tie.Need-returns-3
 unfolding spotOf
 returns-3 c =
-    let p = c .before .before .before in
-    let h = head p in
-    rw (eq-eqb _ 0 (sound (h .before)), ← h .head-of .ensures, lt-ltb _ _ (state-in (p .before .before)), here p)
+    let e = c .before .before in
+    let h = head (filled e) in
+    rw (eq-eqb _ 0 (sound (h .before)), ← h .head-of .ensures, lt-ltb _ _ (state-in e), here e)
 
 pub spot-of-spec : {M : Type 1} → statement M
 spot-of-spec =
@@ -110,17 +112,16 @@ spot-of-spec =
     fault-requires
     returns
     head-of-requires
-    count-open-requires
-    returns-2
     slice-aggregate-put-cells
     put-cells-requires
+    returns-2
     mul-place
     array-read-place
     cast-place
-    add-t12
-    div-t16
-    cast-t17
-    add-t18
-    rem-t19
-    cast-t20
+    add-t11
+    div-t15
+    cast-t16
+    add-t17
+    rem-t18
+    cast-t19
     returns-3)

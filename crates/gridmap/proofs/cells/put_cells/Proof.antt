@@ -1,12 +1,12 @@
--- The invariant is that the open places below p stand at the front of the row.
-use mathlib.Core.Path.{_≡_, _∙_}
+-- The invariant is that the open places below p stand at the front, so that as many were written as are open.
+use mathlib.Core.Path.{_≡_, ap, _∙_}
 use mathlib.Core.Logic.{⊎-elim}
 use Prim.Native.Nat.{_≤_, _<_, _-_}
 use native.Mathlib.Omega.{arith}
 use lib.ListN.{length}
 use borrow.Author.Needs.{needs}
 use Rattle.laws.specs.Count.{count}
-use Rattle.laws.specs.Gather.{picked}
+use Rattle.laws.specs.Gather.{picked, picked-length}
 use Rattle.laws.specs.Put.{Put, picks-zero, picks-length, picks-few, picks-room, picks-more, picks-skip, picks-end}
 use Rattle.gridmap.specs.Map.{Map, cells, openAt, places, stateCount}
 use Rattle.gridmap.specs.Laws.{mapWith}
@@ -15,10 +15,10 @@ use Rattle.gridmap.proofs.cells.put_cells.Statement.{statement}
 use Rattle.gridmap.proofs.cells.put_cells.Tie as tie
 
 abbrev Inv-loop : tie.InvT-loop
-Inv-loop text h row₀ next₀ p₀ p-end row next p = (p ≤ p-end) × Put 0 (picked (openAt (mapWith text h)) p) row₀ row next
+Inv-loop text h cell₀ next₀ p₀ p-end cell next p = (p ≤ p-end) × Put 0 (picked (openAt (mapWith text h)) p) cell₀ cell next
 
 abbrev μ-loop : tie.MeasureT-loop
-μ-loop text h row₀ next₀ p₀ p-end row next p = p-end - p
+μ-loop text h cell₀ next₀ p₀ p-end cell next p = p-end - p
 
 -- the places that the needs go back to, and the map
 abbrev start : tie.At-loop Inv-loop μ-loop → tie.Start Inv-loop μ-loop
@@ -30,7 +30,7 @@ at c = c .before .before .before .before .before
 abbrev drawing : tie.Start Inv-loop μ-loop → Map
 drawing s = mapWith (s .args .text .now) (s .args .h)
 
-room : (s : tie.Start Inv-loop μ-loop) → count (openAt (drawing s)) (places (drawing s)) ≤ length (s .args .row .now)
+room : (s : tie.Start Inv-loop μ-loop) → count (openAt (drawing s)) (places (drawing s)) ≤ length (s .args .cell .now)
 unfolding stateCount
 room s = s .pre .1
 
@@ -43,7 +43,7 @@ few c = omega (arith, low (start c), picks-few _ _ _ (room (start c)) (c .loop .
 is-here : (c : tie.After-is-open Inv-loop μ-loop) → openAt (drawing (start (c .before .before .before .before))) (c .before .before .before .before .loop .p) ≡ c .is-open .result
 is-here c = open-is (drawing (start (c .before .before .before .before))) (c .before .before .before .before .loop .p) _ (c .before .byte .ensures) _ (c .is-open .ensures)
 
-is-room : (c : tie.Then1 Inv-loop μ-loop) → at c .loop .next < length (at c .loop .row)
+is-room : (c : tie.Then1 Inv-loop μ-loop) → at c .loop .next < length (at c .loop .cell)
 is-room c =
     let l = at c .loop in
     picks-room _ _ _ (room (start (at c))) (l .p) _ _ (l .inv .1) (l .inv .0) (c .before .before .before .before .loop-test .taken) (is-here (c .before) ∙ c .if1 .taken)
@@ -66,14 +66,14 @@ byte-requires c κs = search needs
 is-open-requires : tie.Need-is-open-requires Inv-loop μ-loop
 is-open-requires c κs = search needs
 
-cast-row : tie.Need-cast-row Inv-loop μ-loop
-cast-row c = omega (arith, low (c .before .before .before .before .before .before .before .before .before .before))
+cast-cell : tie.Need-cast-cell Inv-loop μ-loop
+cast-cell c = omega (arith, low (c .before .before .before .before .before .before .before .before .before .before))
 
-mul-row : tie.Need-mul-row Inv-loop μ-loop
-mul-row c = omega (arith, few (at c))
+mul-cell : tie.Need-mul-cell Inv-loop μ-loop
+mul-cell c = omega (arith, few (at c))
 
-slice-write-row : tie.Need-slice-write-row Inv-loop μ-loop
-slice-write-row c = is-room c
+slice-write-cell : tie.Need-slice-write-cell Inv-loop μ-loop
+slice-write-cell c = is-room c
 
 add-next : tie.Need-add-next Inv-loop μ-loop
 add-next c = omega (arith, few (at c))
@@ -100,8 +100,13 @@ same-length : tie.Need-same-length Inv-loop μ-loop
 same-length c = let l = c .before .loop in picks-length _ _ _ (room (start (c .before))) (l .p) _ _ (l .inv .1) (l .inv .0)
 
 returns : tie.Need-returns Inv-loop μ-loop
-unfolding cells
-returns c = let l = c .before .loop in picks-end _ _ _ (room (start (c .before))) (l .p) _ _ (l .inv .1) (l .inv .0) (c .loop-test .left)
+unfolding cells stateCount
+returns c =
+    let l = c .before .loop in
+    let m = drawing (start (c .before)) in
+    let q : l .p ≡ places m = omega arith in
+    let many : l .next ≡ count (openAt m) (l .p) = omega (arith, l .inv .1 .next, picked-length (openAt m) (l .p)) in
+    (many ∙ ap (count (openAt m)) q, picks-end _ _ _ (room (start (c .before))) (l .p) _ _ (l .inv .1) (l .inv .0) (c .loop-test .left))
 
 pub put-cells-spec : {M : Type 1} → statement M
 put-cells-spec =
@@ -115,9 +120,9 @@ put-cells-spec =
     add-byte
     byte-requires
     is-open-requires
-    cast-row
-    mul-row
-    slice-write-row
+    cast-cell
+    mul-cell
+    slice-write-cell
     add-next
     add-p
     loop-less

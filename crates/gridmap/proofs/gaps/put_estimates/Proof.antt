@@ -1,88 +1,58 @@
--- The invariant is that the first i estimates stand at the front; row and column of a place of the table are below n.
-use Prim.Native.Nat.{_/_, _%_, _*_, _-_, _≤_, _<_}
-use native.Mathlib.Nat.{zero-add, mul-le-mul}
+-- The invariant is that the estimates from the states before a stand at the front.
+use Prim.Native.Nat.{_+_, _*_, _-_, _≤_}
+use native.Mathlib.Nat.{mul-le-mul-right}
 use native.Mathlib.Omega.{arith}
-use lib.ListN.{length, getD}
+use lib.ListN.{length}
 use borrow.Author.Needs.{needs}
-use Rattle.laws.specs.Table.{square-some, square-row, square-column}
-use Rattle.laws.specs.Fill.{Filled, filled-zero, filled-more, filled-end}
-use Rattle.gridmap.specs.Estimates.{between}
-use Rattle.gridmap.specs.Laws.{tableOf}
+use Rattle.gridmap.specs.EstimateLaws.{Table, table-zero, table-more, table-end}
 use Rattle.gridmap.proofs.gaps.put_estimates.Statement.{statement}
 use Rattle.gridmap.proofs.gaps.put_estimates.Tie as tie
 
 abbrev Inv-loop : tie.InvT-loop
-Inv-loop stride row estimates₀ n i₀ i-end estimates i =
-    (i ≤ i-end) × Filled (λ i. between stride (getD row (i / length row) 0) (getD row (i % length row) 0)) 0 estimates₀ estimates i
+Inv-loop rows columns estimates₀ n a₀ estimates a = (a ≤ n) × Table rows columns estimates₀ estimates (a * n)
 
 abbrev μ-loop : tie.MeasureT-loop
-μ-loop stride row estimates₀ n i₀ i-end estimates i = i-end - i
+μ-loop rows columns estimates₀ n a₀ estimates a = n - a
 
-square : (s : tie.Start Inv-loop μ-loop) → let n = length (s .args .row .now) in n * n ≤ 65536
-square s = let h : length (s .args .row .now) ≤ 256 = s .pre .0 .1 in mul-le-mul h h
+-- the place that the needs go back to, and the room there for the estimates from a
+abbrev start : tie.At-loop Inv-loop μ-loop → tie.Start Inv-loop μ-loop
+start c = c .before .before .before .before
 
-row-low : (c : tie.In-loop Inv-loop μ-loop) → let n = length (c .before .before .before .before .args .row .now) in c .before .loop .i / n < n
-row-low c = square-row _ _ (c .loop-test .taken)
-
-column-low : (c : tie.In-loop Inv-loop μ-loop) → let n = length (c .before .before .before .before .args .row .now) in c .before .loop .i % n < n
-column-low c = square-column _ _ (c .loop-test .taken)
-
-mul-i-end : tie.Need-mul-i-end Inv-loop μ-loop
-mul-i-end c = omega (arith, square (c .before .before))
+room : (c : tie.In-loop Inv-loop μ-loop) → let s = start (c .before) .args in c .before .loop .a * length (s .rows .now) + length (s .rows .now) ≤ length (s .estimates .now)
+room c = let s = start (c .before) in omega (arith, mul-le-mul-right (length (s .args .rows .now)) (c .loop-test .taken), s .pre .1)
 
 loop-holds : tie.Need-loop-holds Inv-loop μ-loop
-loop-holds c = (search needs, filled-zero _ 0 _)
+loop-holds c = let s = c .before .before .before .args in (search needs, table-zero (s .rows .now) (s .columns .now) (s .estimates .now) (s .estimates .now))
 
-div-between : tie.Need-div-between Inv-loop μ-loop
-div-between c = square-some _ _ (c .loop-test .taken)
+mul-put-estimates-from : tie.Need-mul-put-estimates-from Inv-loop μ-loop
+mul-put-estimates-from c = omega (arith, room c)
 
-mul-between : tie.Need-mul-between Inv-loop μ-loop
-mul-between c = omega (arith, row-low c, c .before .before .before .before .pre .0 .1)
+put-estimates-from-requires : tie.Need-put-estimates-from-requires Inv-loop μ-loop
+put-estimates-from-requires c κs =
+    let l = c .before .before in
+    ((start l .pre .0, c .before .loop-test .taken), omega (arith, room (c .before), l .loop .inv .1 .long))
 
-shared-slice-read-between : tie.Need-shared-slice-read-between Inv-loop μ-loop
-shared-slice-read-between c = row-low (c .before)
-
-cast-between : tie.Need-cast-between Inv-loop μ-loop
-cast-between c = let s = c .before .before .before .before .before in omega (arith, c .shared-slice-known2 .given (c .before .before .loop .i / length (s .args .row .now)))
-
-rem-between : tie.Need-rem-between Inv-loop μ-loop
-rem-between c = square-some _ _ (c .before .loop-test .taken)
-
-mul-between-2 : tie.Need-mul-between-2 Inv-loop μ-loop
-mul-between-2 c = omega (arith, column-low (c .before), c .before .before .before .before .before .pre .0 .1)
-
-shared-slice-read-between-2 : tie.Need-shared-slice-read-between-2 Inv-loop μ-loop
-shared-slice-read-between-2 c = column-low (c .before .before)
-
-cast-between-2 : tie.Need-cast-between-2 Inv-loop μ-loop
-cast-between-2 c = let s = c .before .before .before .before .before .before in omega (arith, c .shared-slice-known3 .given (c .before .before .before .loop .i % length (s .args .row .now)))
-
-between-requires : tie.Need-between-requires Inv-loop μ-loop
-between-requires c κs = let r = c .before .before .before .before .before .before .pre in (r .0 .0, (r .1 .1 _ (row-low (c .before .before)), r .1 .1 _ (column-low (c .before .before))))
-
-mul-estimates : tie.Need-mul-estimates Inv-loop μ-loop
-mul-estimates c = omega (arith, square (c .before .before .before .before .before .before .before))
-
-slice-write-estimates : tie.Need-slice-write-estimates Inv-loop μ-loop
-slice-write-estimates c = omega (arith, c .before .before .before .before .loop .inv .1 .long)
-
-add-i : tie.Need-add-i Inv-loop μ-loop
-add-i c = omega (arith, square (c .before .before .before .before .before .before .before))
+add-a : tie.Need-add-a Inv-loop μ-loop
+add-a c = search needs
 
 loop-less : tie.Need-loop-less Inv-loop μ-loop
 loop-less c = search needs
 
 loop-again : tie.Need-loop-again Inv-loop μ-loop
 loop-again c =
-    let l = c .before .before .before .before .loop in
-    (search needs, rw (zero-add (l .i)) at (filled-more _ 0 _ _ (l .i) (l .inv .1) (search needs) _ (c .between .ensures)))
+    let w = c .before .before in
+    let l = w .before .before .before in
+    let s = start l in
+    (search needs, table-more (s .args .rows .now) (s .args .columns .now) _ _ (l .loop .a) (w .before .before .loop-test .taken) (s .pre .1) (l .loop .inv .1) _ (w .put-estimates-from .ensures))
 
 same-length : tie.Need-same-length Inv-loop μ-loop
 same-length c = c .before .loop .inv .1 .long
 
 returns : tie.Need-returns Inv-loop μ-loop
-unfolding tableOf
-returns c = let l = c .before .loop in filled-end _ 0 _ _ _ (l .i) (l .inv .1) (l .inv .0) (c .loop-test .left)
+returns c =
+    let l = c .before .loop in
+    let s = start (c .before) .args in
+    table-end (s .rows .now) (s .columns .now) _ _ (l .a) (l .inv .0) (c .loop-test .left) (l .inv .1)
 
 pub put-estimates-spec : {M : Type 1} → statement M
 put-estimates-spec =
@@ -90,20 +60,10 @@ put-estimates-spec =
     (tie.spec
     Inv-loop
     μ-loop
-    mul-i-end
     loop-holds
-    div-between
-    mul-between
-    shared-slice-read-between
-    cast-between
-    rem-between
-    mul-between-2
-    shared-slice-read-between-2
-    cast-between-2
-    between-requires
-    mul-estimates
-    slice-write-estimates
-    add-i
+    mul-put-estimates-from
+    put-estimates-from-requires
+    add-a
     loop-less
     loop-again
     same-length

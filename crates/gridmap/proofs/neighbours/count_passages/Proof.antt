@@ -3,21 +3,19 @@ use mathlib.Core.Path.{_≡_, sym, ap, _∙_}
 use mathlib.Core.Logic.{⊎-elim}
 use Prim.Native.Nat.{ℕ, _+_, _*_, _≤_, _-_}
 use native.Mathlib.Omega.{arith}
-use lib.ListN.{length}
 use borrow.Author.Needs.{needs}
 use Rattle.laws.specs.Count.{count, count-zero, count-yes, count-no}
 use Rattle.gridmap.specs.Map.{stateCount}
 use Rattle.gridmap.specs.Passages.{isPassage, passagesMany}
 use Rattle.gridmap.specs.Laws.{mapWith}
-use Rattle.gridmap.specs.CellLaws.{cells-length}
 use Rattle.gridmap.proofs.neighbours.count_passages.Statement.{statement}
 use Rattle.gridmap.proofs.neighbours.count_passages.Tie as tie
 
 abbrev Inv-loop : tie.InvT-loop
-Inv-loop text h row many₀ j₀ j-end many j = (j ≤ j-end) × (many ≡ count (isPassage (mapWith text h)) j) × (many ≤ j)
+Inv-loop text h rows columns many₀ j₀ j-end many j = (j ≤ j-end) × (many ≡ count (isPassage (mapWith text h)) j) × (many ≤ j)
 
 abbrev μ-loop : tie.MeasureT-loop
-μ-loop text h row many₀ j₀ j-end many j = j-end - j
+μ-loop text h rows columns many₀ j₀ j-end many j = j-end - j
 
 mul-j-end : tie.Need-mul-j-end Inv-loop μ-loop
 mul-j-end c = search needs
@@ -26,7 +24,7 @@ loop-holds : tie.Need-loop-holds Inv-loop μ-loop
 loop-holds c = (search needs, sym (count-zero _), search needs)
 
 is-passage-requires : tie.Need-is-passage-requires Inv-loop μ-loop
-is-passage-requires c κs = (c .before .before .before .before .pre .0, (c .before .before .before .before .pre .1 .0, c .loop-test .taken))
+is-passage-requires c κs = let s = c .before .before .before .before .before in (s .pre .0, (s .pre .1 .0, c .loop-test .taken))
 
 add-many : tie.Need-add-many Inv-loop μ-loop
 add-many c = search needs
@@ -50,9 +48,8 @@ returns : tie.Need-returns Inv-loop μ-loop
 unfolding passagesMany
 returns c =
     let l = c .before .loop in
-    let s = c .before .before .before .before in
-    let m = mapWith (s .args .text .now) (s .args .h) in
-    let q : l .j ≡ 8 * stateCount m = omega (arith, ap length (s .pre .1 .0), cells-length m) in
+    let s = c .before .before .before .before .before in
+    let q : l .j ≡ 8 * stateCount (mapWith (s .args .text .now) (s .args .h)) = omega (arith, s .pre .1 .0 .high) in
     (rw q at (l .inv .1), search needs)
 
 pub count-passages-spec : {M : Type 1} → statement M

@@ -1,5 +1,5 @@
 -- The invariant is that the passages of the neighbours below j stand at the front of the buffer.
-use mathlib.Core.Path.{_≡_, sym, ap, _∙_}
+use mathlib.Core.Path.{_≡_, sym, _∙_}
 use mathlib.Core.Bool.{true}
 use mathlib.Core.Logic.{⊎-elim}
 use Prim.Native.Nat.{_+_, _*_, _≤_, _<_, _-_}
@@ -11,20 +11,19 @@ use Rattle.laws.specs.Put.{Put}
 use Rattle.gridmap.specs.Map.{Map, stateCount}
 use Rattle.gridmap.specs.Passages.{isPassage, passage}
 use Rattle.gridmap.specs.Laws.{mapWith}
-use Rattle.gridmap.specs.CellLaws.{cells-length}
 use Rattle.gridmap.specs.WritingLaws.{puts-zero, puts-length, puts-few, puts-skip, puts-room, puts-more, puts-end}
 use Rattle.gridmap.proofs.neighbours.put_passages.Statement.{statement}
 use Rattle.gridmap.proofs.neighbours.put_passages.Tie as tie
 
 abbrev Inv-loop : tie.InvT-loop
-Inv-loop text h row passages₀ next₀ j₀ j-end passages next j = (j ≤ j-end) × Put 0 (gathered (passage (mapWith text h)) j) passages₀ passages next
+Inv-loop text h cell rows columns passages₀ next₀ j₀ j-end passages next j = (j ≤ j-end) × Put 0 (gathered (passage (mapWith text h)) j) passages₀ passages next
 
 abbrev μ-loop : tie.MeasureT-loop
-μ-loop text h row passages₀ next₀ j₀ j-end passages next j = j-end - j
+μ-loop text h cell rows columns passages₀ next₀ j₀ j-end passages next j = j-end - j
 
 -- the places that the needs go back to, and the map
 abbrev start : tie.At-loop Inv-loop μ-loop → tie.Start Inv-loop μ-loop
-start c = c .before .before .before .before
+start c = c .before .before .before .before .before .before
 
 abbrev at : tie.Then1 Inv-loop μ-loop → tie.At-loop Inv-loop μ-loop
 at c = c .before .before .before
@@ -32,8 +31,8 @@ at c = c .before .before .before
 abbrev drawing : tie.Start Inv-loop μ-loop → Map
 drawing s = mapWith (s .args .text .now) (s .args .h)
 
-states : (s : tie.Start Inv-loop μ-loop) → length (s .args .row .now) ≡ stateCount (drawing s)
-states s = ap length (s .pre .1 .0) ∙ cells-length (drawing s)
+states : (s : tie.Start Inv-loop μ-loop) → length (s .args .rows .now) ≡ stateCount (drawing s)
+states s = s .pre .1 .1 .0 .high
 
 low : (c : tie.At-loop Inv-loop μ-loop) → c .loop .j ≤ 8 * stateCount (drawing (start c))
 low c = omega (arith, states (start c), c .loop .inv .0)
@@ -42,7 +41,7 @@ lower : (c : tie.In-loop Inv-loop μ-loop) → c .before .loop .j < 8 * stateCou
 lower c = omega (arith, states (start (c .before)), c .loop-test .taken)
 
 few : (c : tie.At-loop Inv-loop μ-loop) → c .loop .next ≤ 6144
-few c = omega (arith, puts-few _ _ (start c .pre .1 .1 .1) (c .loop .j) _ _ (c .loop .inv .1) (low c))
+few c = omega (arith, puts-few _ _ (start c .pre .1 .1 .1 .1) (c .loop .j) _ _ (c .loop .inv .1) (low c))
 
 is-here : (c : tie.Then1 Inv-loop μ-loop) → isPassage (drawing (start (at c))) (at c .loop .j) ≡ true
 is-here c = sym (c .before .is-passage .ensures) ∙ c .if1 .taken
@@ -50,16 +49,16 @@ is-here c = sym (c .before .is-passage .ensures) ∙ c .if1 .taken
 is-room : (c : tie.Then1 Inv-loop μ-loop) → at c .loop .next + 3 ≤ length (at c .loop .passages)
 is-room c =
     let l = at c .loop in
-    puts-room _ _ (start (at c) .pre .1 .1 .1) (l .j) _ _ (l .inv .1) (low (at c)) (lower (c .before .before)) (is-here c)
+    puts-room _ _ (start (at c) .pre .1 .1 .1 .1) (l .j) _ _ (l .inv .1) (low (at c)) (lower (c .before .before)) (is-here c)
 
 mul-j-end : tie.Need-mul-j-end Inv-loop μ-loop
 mul-j-end c = search needs
 
 loop-holds : tie.Need-loop-holds Inv-loop μ-loop
-loop-holds c = (search needs, puts-zero _ _ (c .before .before .before .pre .1 .1 .1))
+loop-holds c = (search needs, puts-zero _ _ (c .before .before .before .before .before .pre .1 .1 .1 .1))
 
 is-passage-requires : tie.Need-is-passage-requires Inv-loop μ-loop
-is-passage-requires c κs = let s = start (c .before) in (s .pre .0, (s .pre .1 .0, c .loop-test .taken))
+is-passage-requires c κs = let s = start (c .before) in (s .pre .0, (s .pre .1 .1 .0, c .loop-test .taken))
 
 cast-passages : tie.Need-cast-passages Inv-loop μ-loop
 cast-passages c = search needs
@@ -71,7 +70,7 @@ slice-write-passages : tie.Need-slice-write-passages Inv-loop μ-loop
 slice-write-passages c = omega (arith, is-room c)
 
 leads-to-requires : tie.Need-leads-to-requires Inv-loop μ-loop
-leads-to-requires c κs = let s = start (at c) in (s .pre .0, (s .pre .1 .0, (c .before .before .loop-test .taken, is-here c)))
+leads-to-requires c κs = let s = start (at c) in (s .pre .0, (s .pre .1 .0, (s .pre .1 .1 .0, (c .before .before .loop-test .taken, is-here c))))
 
 cast-passages-2 : tie.Need-cast-passages-2 Inv-loop μ-loop
 cast-passages-2 c = search needs
@@ -109,7 +108,7 @@ loop-less c = search needs
 loop-again : tie.Need-loop-again Inv-loop μ-loop
 loop-again c =
     let l = c .before .before .before .loop in
-    let r = start (c .before .before .before) .pre .1 .1 .1 in
+    let r = start (c .before .before .before) .pre .1 .1 .1 .1 in
     let w = low (c .before .before .before) in
     let e = sym (c .before .is-passage .ensures) in (
       search needs,
@@ -120,13 +119,13 @@ loop-again c =
     )
 
 same-length : tie.Need-same-length Inv-loop μ-loop
-same-length c = let l = c .before .loop in puts-length _ _ (start (c .before) .pre .1 .1 .1) (l .j) _ _ (l .inv .1) (low (c .before))
+same-length c = let l = c .before .loop in puts-length _ _ (start (c .before) .pre .1 .1 .1 .1) (l .j) _ _ (l .inv .1) (low (c .before))
 
 returns : tie.Need-returns Inv-loop μ-loop
 returns c =
     let l = c .before .loop in
     let s = start (c .before) in
-    puts-end (drawing s) _ (s .pre .1 .1 .1) (l .j) _ _ (l .inv .1) (low (c .before)) (omega (arith, states s))
+    puts-end (drawing s) _ (s .pre .1 .1 .1 .1) (l .j) _ _ (l .inv .1) (low (c .before)) (omega (arith, states s))
 
 pub put-passages-spec : {M : Type 1} → statement M
 put-passages-spec =
