@@ -31,6 +31,9 @@ passages-bound κs a x y p q i = (same p q i, x .1)
 pub detours-by : Fixes f.opening.detours_by.ended f.opening.detours_by.Reads.Learnt
 detours-by κs a x y p q i = (same p q i, x .1)
 
+pub largest-from : Fixes f.opening.largest_from.ended f.opening.largest_from.Reads.Learnt
+largest-from κs a x y p q i = (same p q i, x .1)
+
 pub detours-from : Fixes f.opening.detours_from.ended f.opening.detours_from.Reads.Learnt
 detours-from κs a x y p q i = (same p q i, x .1)
 

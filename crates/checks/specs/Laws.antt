@@ -9,15 +9,16 @@ use native.Mathlib.Omega.{arith}
 use lib.ListN.{length, getD, set, replicate, length-set, length-replicate, getD-replicate}
 use lib.Seq.{getD-set-same, getD-set-other}
 use lib.Dec.{ltb, leb, eqb}
-use borrow.Author.Tests.{ltb-true, leb-true, eqb-true, eq-eqb, ne-eqb}
+use borrow.Author.Tests.{ltb-true, leb-true, eqb-true, eq-eqb, ne-eqb, le-leb}
 use Rattle.laws.specs.Truth.{and-left, and-right, or-either, provided, provided-kept}
 use Rattle.laws.specs.Count.{count-zero, count-yes, count-no, count-max}
-use Rattle.laws.specs.All.{all, all-at, all-stop}
+use Rattle.laws.specs.LargestLaws.{largest, largest-at}
+use Rattle.laws.specs.All.{all, all-at, all-stop, all-of}
 use Rattle.rule.specs.Task.{passageCount, near, far, cost, isClear, estimate}
 use Rattle.rule.specs.Laws.{WholeTable}
 use Rattle.rule.specs.Refusals.{badSizes, badEnds, badWeights, badPassage, badEstimate, abovePassage, aboveDetour}
 use Rattle.rule.specs.Marks.{isOut, none}
-use Rattle.checks.specs.Opening.{Task, sizesRight, endsRight, weightsRight, passageRight, passagesRight, rowRight, estimatesRight, earlyFault, fault, holds1, holds2, holds3, holds4, holds5, holds6, holds7}
+use Rattle.checks.specs.Opening.{Task, sizesRight, endsRight, weightsRight, passageRight, passagesRight, rowRight, estimatesRight, detoursBy, earlyFault, fault, holds1, holds2, holds3, holds4, holds5, holds6, holds7}
 use Rattle.checks.specs.Fits.{workerRight, labelsRight, workersRight, holders}
 
 -- what conditions 1 to 4 say, as facts
@@ -185,3 +186,13 @@ module _ (held many : List ℕ) (w : ℕ) (c : Counted held many w) where
 
   pub counted-end : (k : ℕ) → w ≤ k → k ≤ w → Counted held many k
   counted-end k l g = let q : w ≡ k = omega arith in rw q at c
+
+-- what check 7 passes over: the detours from a by a itself, and by a state that is at least as far from a as any
+module _ (estimates : List ℕ) (n a b : ℕ) where
+  pub detours-own : b ≡ a → detoursBy estimates n a b ≡ true
+  unfolding detoursBy
+  detours-own e = rw e (all-of _ n (λ c l. le-leb (estimate estimates n a c) (estimate estimates n a a + estimate estimates n a c) (omega arith)))
+
+  pub detours-over : largest (estimate estimates n a) n ≤ estimate estimates n a b → detoursBy estimates n a b ≡ true
+  unfolding detoursBy
+  detours-over h = all-of _ n (λ c l. le-leb (estimate estimates n a c) (estimate estimates n a b + estimate estimates n b c) (omega (arith, largest-at (estimate estimates n a) n c l)))

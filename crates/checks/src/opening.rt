@@ -2,6 +2,8 @@
 ghost use mathlib.Core.Path.{_≡_};
 ghost use mathlib.Core.Bool.{true};
 ghost use Prim.Native.Nat.{_<_};
+ghost use Rattle.laws.specs.LargestLaws.{largest};
+ghost use Rattle.rule.specs.Task.{estimate};
 ghost use Rattle.rule.specs.Laws.{WholeTable};
 ghost use Rattle.checks.specs.Opening.{
   task,
@@ -150,14 +152,35 @@ pub fn detours_by(estimates: &[u32], n: usize, a: usize, b: usize) -> bool
     right
 }
 
+// The largest estimate from a.
+pub fn largest_from(estimates: &[u32], n: usize, a: usize) -> u32
+    requires { ⌜ WholeTable (now estimates) n × (a < n) ⌝ }
+    ensures { λ r. ⌜ r ≡ largest (estimate (now (estimates .entry)) n a) n ⌝ }
+{
+    let mut most: u32 = 0;
+    for to in 0..n {
+        let h = rule::estimate(estimates, n, a, to);
+        if h > most {
+            most = h;
+        }
+    }
+    most
+}
+
 // All detours from a, of 7.
 pub fn detours_from(estimates: &[u32], n: usize, a: usize) -> bool
     requires { ⌜ (WholeTable (now estimates) n × (estimatesRight (now estimates) n ≡ true)) × (a < n) ⌝ }
     ensures { λ r. ⌜ r ≡ detoursFrom (now (estimates .entry)) n a ⌝ }
 {
+    let most = largest_from(estimates, n, a);
     for b in 0..n {
-        if !detours_by(estimates, n, a, b) {
-            return false;
+        // No way round is too short by a itself, nor by a state that is as far from a as any.
+        if b != a {
+            if rule::estimate(estimates, n, a, b) < most {
+                if !detours_by(estimates, n, a, b) {
+                    return false;
+                }
+            }
         }
     }
     true

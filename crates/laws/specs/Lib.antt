@@ -5,6 +5,7 @@ pub mod Fold
 pub mod First
 pub mod Least
 pub mod Count
+pub mod LargestLaws
 pub mod All
 pub mod Table
 pub mod Difference

@@ -1,5 +1,7 @@
 //! The independent desk: task, machine, opening, Take, Bring and path reading,
-//! written straight from document 01 and orders 1 and 4 of document 02.
+//! written straight from document 01 and orders 1, 4 and 5 of document 02.
+
+use crate::triangles::{self, Sweep};
 
 pub const MAX_STATES: usize = 256;
 pub const MAX_WORKERS: usize = 32;
@@ -136,7 +138,20 @@ impl Live {
 impl Machine {
     /// Opens a task, or gives the number of the first refusal that applies.
     pub fn open(head: Head, graph: Graph) -> Result<Machine, u32> {
-        match opening_refusal(&head, graph) {
+        Machine::open_by(triangles::passing_over, head, graph)
+    }
+
+    /// The same with a sweep of check 7 over all triples, as before order 5.
+    pub fn open_plainly(head: Head, graph: Graph) -> Result<Machine, u32> {
+        Machine::open_by(triangles::plain, head, graph)
+    }
+
+    fn open_by(
+        sweep: fn(usize, &[u32]) -> Sweep,
+        head: Head,
+        graph: Graph,
+    ) -> Result<Machine, u32> {
+        match opening_refusal(sweep, &head, graph) {
             Some(number) => Err(number),
             None => Ok(Machine::fresh(head)),
         }
@@ -365,15 +380,15 @@ impl Machine {
     }
 }
 
-/// The first of refusals 1 to 7.
-fn opening_refusal(head: &Head, graph: Graph) -> Option<u32> {
+/// The first of refusals 1 to 7, with a sweep for check 7.
+fn opening_refusal(sweep: fn(usize, &[u32]) -> Sweep, head: &Head, graph: Graph) -> Option<u32> {
     if let Some(number) = shared_refusal(head, graph) {
         Some(number)
     } else if !estimates_in_range(head.n, graph.estimates) {
         Some(5)
     } else if !estimates_below_costs(head.n, graph) {
         Some(6)
-    } else if !triangles_hold(head.n, graph.estimates) {
+    } else if !sweep(head.n, graph.estimates).holds {
         Some(7)
     } else {
         None
@@ -425,19 +440,4 @@ fn estimates_below_costs(n: usize, graph: Graph) -> bool {
         .chunks_exact(3)
         .filter(|passage| !is_blocked(passage))
         .all(|p| graph.estimates[p[0] as usize * n + p[1] as usize] <= p[2])
-}
-
-/// h(a,c) <= h(a,b) + h(b,c) for all a, b, c. The sums fit 32 bits, since no
-/// estimate is above 255,000,000. The inner loop runs to its end, so that it can
-/// be made into vector instructions.
-fn triangles_hold(n: usize, estimates: &[u32]) -> bool {
-    estimates.chunks_exact(n).all(|from_a| {
-        from_a
-            .iter()
-            .zip(estimates.chunks_exact(n))
-            .all(|(&ab, from_b)| {
-                let pairs = from_a.iter().zip(from_b);
-                !pairs.fold(false, |broken, (&ac, &bc)| broken | (ac > ab + bc))
-            })
-    })
 }

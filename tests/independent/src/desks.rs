@@ -1,12 +1,12 @@
 //! Both desks, called alike: every reply, every number handed back, every place
 //! of every lent slice and the printed text are compared. Every Wait is held
-//! against order 1 of document 02 and every morning against order 2; without a
-//! library only that is done.
+//! against order 1 of document 02, every morning against order 2 and every opening
+//! against order 5; without a library only that is done.
 
 use crate::demand::{self, Morning};
 use crate::desk::{Action, Graph, Reply, Task};
 use crate::map::Cell;
-use crate::rows::{self, Independent, RowDesk, Shown, NO_SPOT, NO_STATE};
+use crate::rows::{self, Independent, RowDesk, Shown, NO_SPOT, NO_STATE, ROW};
 use crate::tally::Tally;
 use std::fmt::Debug;
 
@@ -59,7 +59,11 @@ impl<'a> Desks<'a> {
         self.show(|| format!("open {task:?}"));
         let is_wide = task.head.pull.max(task.head.excess) > usize::from(u16::MAX);
         let what = if is_wide { "open-wide" } else { "open" };
-        self.both(what, row, |desk, row| desk.open(task, row))
+        let reply = self.both(what, row, |desk, row| desk.open(task, row))?;
+        if row.len() == ROW {
+            demand::opening::see_opening(task, reply)?;
+        }
+        Ok(reply)
     }
 
     pub fn call(

@@ -1,7 +1,8 @@
-//! An independent route desk, written from document 01 and orders 1 to 4 of
+//! An independent route desk, written from document 01 and orders 1 to 5 of
 //! document 02 alone, and what compares the proved desk with it.
 //!
 //! - `desk`: the task, the machine, opening, Take, Bring and path reading.
+//! - `triangles`: opening's check 7, with and without order 5.
 //! - `morning`: the events of a list that one call serves.
 //! - `map`: the reader of grid maps and the task that a map comes to.
 //! - `taskfile`: the task file's reader and the text `deskrun` prints.
@@ -23,6 +24,7 @@
 //! target/release/compare --cases 100000 --seed 1
 //! target/release/compare --maps ../../samples/maps
 //! target/release/bench
+//! target/release/bench --counts                   exact counts alone, no clock
 //! ```
 
 #![deny(unsafe_code)]
@@ -44,6 +46,7 @@ pub mod tally;
 pub mod taskfile;
 #[cfg(test)]
 mod tests;
+pub mod triangles;
 
 /// The proved desk, if this was built with it.
 pub fn library() -> Option<&'static dyn rows::RowDesk> {

@@ -2,8 +2,8 @@
 //! task files, good and damaged, all drawn from a seed and a case number.
 
 use crate::desk::{
-    is_blocked, Action, Graph, Head, Task, BLOCKED, FOUND, MAX_COST, MAX_LABEL, MAX_PASSAGES, NONE,
-    OPEN, OUT, SEARCHING, UNSEEN,
+    is_blocked, Action, Graph, Head, Task, BLOCKED, FOUND, MAX_COST, MAX_LABEL, MAX_PASSAGES,
+    MAX_STATES, NONE, OPEN, OUT, SEARCHING, UNSEEN,
 };
 use crate::rows::{Independent, RowDesk, HELD, LABELS, MARKS, PHASE, ROW, VIAS};
 use crate::taskfile::MAX_FILE;
@@ -180,7 +180,7 @@ fn lower(table: &mut [u32], n: usize, a: usize, b: usize, cost: u32) {
 }
 
 /// Makes a table of direct heights one of distances (Floyd and Warshall).
-fn close(table: &mut [u32], n: usize) {
+pub fn close(table: &mut [u32], n: usize) {
     for b in 0..n {
         let from_b = table[b * n..(b + 1) * n].to_vec();
         for from_a in table.chunks_exact_mut(n) {
@@ -313,11 +313,30 @@ fn break_triangle(rng: &mut Rng, task: &mut Task) {
     }
     let place = rng.below(task.estimates.len());
     let h = &mut task.estimates[place];
-    *h = match rng.below(3) {
+    *h = match rng.below(4) {
         0 => (*h).saturating_add(1),
         1 => (*h).saturating_sub(1),
-        _ => rng.pick(&[0, 1, MAX_COST, MAX_LABEL]),
+        2 => rng.pick(&[0, 1, MAX_COST, MAX_LABEL]),
+        _ => return break_below_largest(rng, &mut task.estimates),
     };
+}
+
+/// Makes h(a,c) the largest estimate of its row by one, and h(b,c) 0 where h(a,b)
+/// was the largest: with b, which a desk that passes over too much would leave out,
+/// the sum is too small by one.
+fn break_below_largest(rng: &mut Rng, estimates: &mut [u32]) {
+    let n = (1..=MAX_STATES).find(|n| n * n == estimates.len());
+    let n = match n {
+        Some(n) if n > 2 => n,
+        _ => return,
+    };
+    let a = rng.below(n);
+    let others = || (0..n).filter(|&s| s != a);
+    let b = others().max_by_key(|b| estimates[a * n + b]).unwrap_or(0);
+    let ends: Vec<_> = others().filter(|&c| c != b).collect();
+    let c = rng.pick(&ends);
+    estimates[b * n + c] = 0;
+    estimates[a * n + c] = estimates[a * n + b].saturating_add(1).min(MAX_LABEL);
 }
 
 // ---- Calls ----

@@ -166,6 +166,24 @@ fn fill(places: &mut [u32], numbers: impl Iterator<Item = u32>) {
     }
 }
 
+/// Writes what an opening hands back into a row: its machine or, refused, zeros. A
+/// row of another length is refused before.
+pub fn open_into(row: &mut [u32], opening: impl FnOnce() -> Result<Machine, u32>) -> u64 {
+    if row.len() != ROW {
+        return code(Reply::Refused(8));
+    }
+    match opening() {
+        Ok(machine) => {
+            encode(&machine, row);
+            code(Reply::Opened)
+        }
+        Err(number) => {
+            row.fill(0);
+            code(Reply::Refused(number))
+        }
+    }
+}
+
 /// The independent desk by number rows.
 pub struct Independent;
 
@@ -184,19 +202,7 @@ impl Independent {
 
 impl RowDesk for Independent {
     fn open(&self, task: &Task, row: &mut [u32]) -> u64 {
-        if row.len() != ROW {
-            return code(Reply::Refused(8));
-        }
-        match Machine::open(task.head, task.graph()) {
-            Ok(machine) => {
-                encode(&machine, row);
-                code(Reply::Opened)
-            }
-            Err(number) => {
-                row.fill(0);
-                code(Reply::Refused(number))
-            }
-        }
+        open_into(row, || Machine::open(task.head, task.graph()))
     }
 
     fn take(&self, row: &mut [u32], graph: Graph, worker: usize) -> u64 {

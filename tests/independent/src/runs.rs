@@ -9,6 +9,7 @@ use crate::rows::{self, RowDesk, Shown, PRINT_ROOM, ROW};
 mod blocked;
 mod maps;
 mod morning;
+mod opening;
 
 const A1_TEXT: &str = "\
 took 0 0
@@ -44,9 +45,15 @@ pub fn failures(desk: &dyn RowDesk) -> Vec<String> {
 }
 
 pub fn all() -> impl Iterator<Item = &'static Run> {
-    [DOCUMENT_01, morning::RUNS, maps::RUNS, blocked::RUNS]
-        .into_iter()
-        .flatten()
+    [
+        DOCUMENT_01,
+        morning::RUNS,
+        maps::RUNS,
+        blocked::RUNS,
+        opening::RUNS,
+    ]
+    .into_iter()
+    .flatten()
 }
 
 const DOCUMENT_01: &[Run] = &[

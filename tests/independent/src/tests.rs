@@ -18,6 +18,7 @@ use crate::taskfile::{self, Fault, MAX_FILE};
 mod blocked;
 mod map;
 mod morning;
+mod opening;
 
 type Change = fn(&mut Machine);
 
@@ -45,6 +46,10 @@ fn runs_of_the_documents() {
 #[test]
 fn runs_of_the_orders_can_fail() {
     let wrongs = [
+        Wrong {
+            open: |_, reply| reply ^ 1,
+            ..RIGHT
+        },
         Wrong {
             morning: |_, _, _, reply| reply ^ 1,
             map: |_, _, counts| counts ^ 1,
@@ -623,6 +628,8 @@ fn wrong_waits_are_caught() {
 /// call hands back. The last number that each change is given is what the call
 /// returns.
 struct Wrong {
+    /// With the task.
+    open: fn(&Task, u64) -> u64,
     take: fn(&mut [u32], u64) -> u64,
     /// With the machine's row, the events and the row of replies.
     morning: fn(&mut [u32], &[u32], &mut [u64], u64) -> u64,
@@ -640,6 +647,7 @@ struct Wrong {
 
 /// A stand-in with nothing wrong, to be changed.
 const RIGHT: Wrong = Wrong {
+    open: |_, reply| reply,
     take: |_, reply| reply,
     morning: |_, _, _, reply| reply,
     map: |_, _, counts| counts,
@@ -672,7 +680,8 @@ impl RowDesk for Wrong {
         task.passages = self.passages(&task.passages);
         task.head.pull = (self.weight)(task.head.pull);
         task.head.excess = (self.weight)(task.head.excess);
-        Independent.open(&task, row)
+        let reply = Independent.open(&task, row);
+        (self.open)(&task, reply)
     }
     fn take(&self, row: &mut [u32], graph: Graph, worker: usize) -> u64 {
         let passages = self.passages(graph.passages);

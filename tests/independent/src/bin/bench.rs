@@ -1,14 +1,18 @@
 //! `bench`: times the proved desk against the independent one, on the same
 //! inputs, in one process, in turns; the least time of many repetitions. Then
-//! mornings against as many single calls to the same desk, and how whole searches
-//! grow with states, passages and workers.
+//! mornings against as many single calls to the same desk, openings against one
+//! with a plain sweep, and how whole searches grow with states, passages and workers.
 //!
 //! ```text
 //! bench                                     all tables
 //! bench growth                              the lines with `growth` in their name
+//! bench opening --counts                    of these the exact counts alone
 //! bench --list                              the names
 //! bench --once NAME --side library --times 100
 //! ```
+//!
+//! Exact counts need no clock and are the same on every machine. What is timed beside
+//! them is timed on x86-64 alone, for which the proved desk is made.
 //!
 //! The column `self` is what the ratio would be were both sides the same: in each
 //! line the second side is timed twice, as if it were two, and the one time divided
@@ -25,20 +29,26 @@
 //! row that a call changes is first copied anew, in the time of both sides.
 //! Buffers are not cleared between repetitions.
 
+use counts::Counts;
 use independent::desks::Checked;
 use independent::rows::{Independent, RowDesk, Shown};
 use mornings::MORNINGS;
+use opening::{openings, Opening};
 use std::process::ExitCode;
 use table::{Line, Table};
 use timing::{black_box, Comparison, Go, Side};
 use workloads::WORKLOADS;
 
+#[path = "bench/counts.rs"]
+mod counts;
 #[path = "bench/growth.rs"]
 mod growth;
 #[path = "bench/inputs.rs"]
 mod inputs;
 #[path = "bench/mornings.rs"]
 mod mornings;
+#[path = "bench/opening.rs"]
+mod opening;
 #[path = "bench/table.rs"]
 mod table;
 #[path = "bench/timing.rs"]
@@ -46,22 +56,56 @@ mod timing;
 #[path = "bench/workloads.rs"]
 mod workloads;
 
+const INDEPENDENT: &dyn RowDesk = &Independent;
+
 // ---- Tables ----
+
+/// Whether what has exact counts is timed too.
+const TIMED: bool = cfg!(target_arch = "x86_64");
 
 /// All tables are set up before the first is timed, so that a fault shows at once.
 fn print_tables(part: &str) -> Checked<()> {
-    let tables = [
+    let counts = counts_tables(part)?;
+    let mut tables = vec![
         desks_table(part)?,
         mornings_table(part)?,
         growth_table(part)?,
     ];
-    let count: usize = tables.iter().map(|table| table.lines.len()).sum();
-    if count == 0 {
-        return Err(format!("no line has {part} in its name, see --list"));
+    if TIMED {
+        tables.extend(opening_tables(part)?);
     }
-    eprintln!("timing {count} lines ..");
+    let counted: usize = counts.iter().map(|counts| counts.lines.len()).sum();
+    let count: usize = tables.iter().map(|table| table.lines.len()).sum();
+    if counted + count == 0 {
+        return Err(no_line(part));
+    }
+    counts.iter().for_each(Counts::print);
+    if counted > 0 && !TIMED {
+        println!("no times of these: they are taken on x86-64 alone\n");
+    }
+    if count > 0 {
+        eprintln!("timing {count} lines ..");
+    }
     tables.into_iter().for_each(Table::print);
     Ok(())
+}
+
+/// The exact counts alone.
+fn print_counts(part: &str) -> Checked<()> {
+    let counts = counts_tables(part)?;
+    if counts.iter().all(|counts| counts.lines.is_empty()) {
+        return Err(no_line(part));
+    }
+    counts.iter().for_each(Counts::print);
+    Ok(())
+}
+
+fn no_line(part: &str) -> String {
+    format!("no line has {part} in its name, see --list")
+}
+
+fn counts_tables(part: &str) -> Checked<[Counts; 1]> {
+    Ok([opening::counts(part)?])
 }
 
 /// The library against the independent desk.
@@ -111,6 +155,40 @@ fn mornings_table(part: &str) -> Checked<Table> {
         counts: &["events"],
         noise: "single calls against themselves",
         lines: lines.collect::<Checked<_>>()?,
+    })
+}
+
+/// The library's openings, if there is a library, and the independent desk's, both
+/// against the latter's with a plain sweep.
+fn opening_tables(part: &str) -> Checked<Vec<Table>> {
+    let library = independent::library().map(|desk| ("library ns", desk));
+    let desks = library.into_iter().chain([("independent ns", INDEPENDENT)]);
+    let tables = desks.map(|(title, desk)| {
+        let openings = openings().filter(|opening| opening.name().contains(part));
+        let lines = openings.map(|opening| opening_line(&opening, desk));
+        Ok(Table {
+            titles: ["name", title, "plain sweep ns"],
+            counts: &[],
+            noise: "plain sweep against itself",
+            lines: lines.collect::<Checked<_>>()?,
+        })
+    });
+    tables.collect()
+}
+
+fn opening_line(opening: &Opening, desk: &'static dyn RowDesk) -> Checked<Line> {
+    let sides = [opening.go()?, opening.plain_go()?].map(|go| Side { go, desk });
+    let [reply, plain] = [0, 1].map(|side| (sides[side].go)(desk));
+    if reply != plain {
+        let (reply, plain) = (Shown(reply), Shown(plain));
+        return Err(format!("{}: {reply}, plain {plain}", opening.name()));
+    }
+    let [first, second] = sides;
+    Ok(Line {
+        name: opening.name(),
+        comparison: Comparison::new(Some(first), second),
+        parts: 1,
+        counts: vec![],
     })
 }
 
@@ -166,8 +244,10 @@ fn main() -> ExitCode {
             Ok(())
         }
         ["--once", name, "--side", side, "--times", times] => once(name, side, times),
+        ["--counts"] => print_counts(""),
+        [part, "--counts"] => print_counts(part),
         [part] if !part.starts_with("--") => print_tables(part),
-        _ => Err("bench [PART] | --list | --once NAME --side SIDE --times N".into()),
+        _ => Err("bench [PART] [--counts] | --list | --once NAME --side SIDE --times N".into()),
     };
     match done {
         Ok(()) => ExitCode::SUCCESS,
@@ -181,8 +261,13 @@ fn main() -> ExitCode {
 fn names() -> Vec<String> {
     let workloads = WORKLOADS.iter().map(|workload| workload.name.to_string());
     let mornings = MORNINGS.iter().map(|morning| morning.name.to_string());
+    let openings = openings().map(|opening| opening.name());
     let sizes = growth::sizes().into_iter().map(|size| size.name());
-    workloads.chain(mornings).chain(sizes).collect()
+    workloads
+        .chain(mornings)
+        .chain(openings)
+        .chain(sizes)
+        .collect()
 }
 
 fn once(name: &str, side: &str, times: &str) -> Checked<()> {
@@ -206,6 +291,9 @@ fn go_of(name: &str) -> Checked<Go> {
     }
     if let Some(morning) = MORNINGS.iter().find(|morning| morning.name == name) {
         return Ok(morning.list()?.morning());
+    }
+    if let Some(opening) = openings().find(|opening| opening.name() == name) {
+        return opening.go();
     }
     match growth::sizes().iter().find(|size| size.name() == name) {
         Some(size) => Ok(size.search()?.go()),

@@ -55,7 +55,7 @@ impl Line {
 
 fn print_columns(columns: [&str; 5], counts: &[impl ToString]) {
     let [name, first, second, ratio, noise] = columns;
-    print!("{name:42} {first:>12} {second:>15} {ratio:>7} {noise:>6}");
+    print!("{name:42} {first:>14} {second:>15} {ratio:>7} {noise:>6}");
     for count in counts {
         print!(" {:>7}", count.to_string());
     }
