@@ -78,6 +78,7 @@ extern "C" {
 #define DESK_STACK_PATH 16384
 #define DESK_STACK_MAP 8192 /* desk_map, desk_map_spot, desk_map_state */
 #define DESK_STACK_PRINT 131072
+#define DESK_STACK_FILE 1024 /* desk_file_read, desk_file_write */
 
 /* The cases of a reply, with the number that each carries. */
 enum {
@@ -163,6 +164,71 @@ uint32_t desk_map_state(const uint8_t *text, size_t text_len, size_t row, size_t
  * is returned. */
 #define DESK_ROOM 589824
 size_t desk_print(const uint8_t *file, size_t file_len, uint8_t *text, size_t text_len);
+
+/* Task files. A file carries a task of at most 64 states and 512 passages, and a list of events as desk_morning takes
+ * them. What the two calls below return is no reply of a machine, and DESK_CASE misreads it: read it with these three.
+ * This reads a file, opens its task, and writes the file again, with the same bytes:
+ *
+ *     uint32_t numbers[DESK_FILE_NUMBERS], passages[DESK_FILE_PASSAGES_ROOM], estimates[DESK_FILE_ESTIMATES_ROOM];
+ *     uint32_t events[DESK_FILE_EVENTS_ROOM], machine[DESK_ROW];
+ *     uint8_t again[DESK_FILE_ROOM];
+ *     uint64_t reply = desk_file_read(file, file_len, numbers, DESK_FILE_NUMBERS, passages, DESK_FILE_PASSAGES_ROOM,
+ *                                     estimates, DESK_FILE_ESTIMATES_ROOM, events, DESK_FILE_EVENTS_ROOM);
+ *     if (DESK_FILE_REFUSAL(reply) == 0) {
+ *         size_t n = numbers[0], passages_len = 3 * numbers[6], events_len = numbers[7];
+ *         reply = desk_open(n, numbers[1], numbers[2], numbers[3], numbers[4], numbers[5], passages, passages_len,
+ *                           estimates, n * n, machine, DESK_ROW);
+ *         (the search: desk_morning with the events read, or other calls)
+ *         reply = desk_file_write(n, numbers[1], numbers[2], numbers[3], numbers[4], numbers[5], passages,
+ *                                 passages_len, estimates, n * n, events, events_len, again, DESK_FILE_ROOM);
+ *     }
+ */
+#define DESK_FILE_REFUSAL(reply) ((unsigned)((reply) >> 32)) /* 0 where a file was read or written */
+#define DESK_FILE_OFFSET(reply) ((uint32_t)(reply))          /* of a fault; 0 where the file was read */
+#define DESK_FILE_LENGTH(reply) ((size_t)(uint32_t)(reply))  /* of the file written; 0 where it was refused */
+
+/* Reads a task file. n, k, start, goal, W, E, the count of passages and the count of events go to the front of numbers,
+ * in this order; the passages, three numbers each, the n x n estimates and the events go to the fronts of the three
+ * slices. Places past them keep what they had; the three .._ROOMs are enough for any file. The numbers are as they
+ * stand in the file: whether the task may be opened is asked by desk_open, and whether a worker may call by the call.
+ * It returns 0. Refused, it leaves all four as they were, and returns the refusal's number times 2^32, plus an offset,
+ * that of the record's first byte where no other is named:
+ *
+ *    21  fewer bytes left than length and kind take, or than the length then asks for, or the file ends before the head
+ *        and all rows are there (offset: the file's length)
+ *    22  unknown kind, payload length wrong for its kind, kind or row out of order (a kind 4 before the last row too),
+ *        call above 1
+ *    23  n not 1 to 64, or a 513th passage; or a file above 65536 bytes (offset: 65536)
+ *    27  numbers shorter than DESK_FILE_NUMBERS, or another slice too short for the passages, estimates or events read
+ *        (offset: 0)
+ *
+ * In this order: 27 for numbers, 23 for a file's length; record by record 21, 22 and 23; 27 for the other slices. */
+#define DESK_FILE_NUMBERS 8
+#define DESK_FILE_PASSAGES_ROOM 1536
+#define DESK_FILE_ESTIMATES_ROOM 4096
+#define DESK_FILE_EVENTS_ROOM 10918
+uint64_t desk_file_read(const uint8_t *file, size_t file_len,
+                        uint32_t *numbers, size_t numbers_len,
+                        uint32_t *passages, size_t passages_len,
+                        uint32_t *estimates, size_t estimates_len,
+                        uint32_t *events, size_t events_len);
+
+/* Writes a task and a list of events as a task file to the front of buffer; the bytes after it keep what they had. No
+ * file has more than DESK_FILE_ROOM bytes. Any task is written that a file can carry, also one that desk_open refuses.
+ * It returns the file's length. Refused, it leaves buffer as it was, and returns the refusal's number times 2^32; the
+ * first of these that applies:
+ *
+ *    24  a task or event that the file can't carry: n not 1 to 64, passages not a multiple of 3 or above 512 passages,
+ *        estimates not n x n, a field above its bytes (k, start, goal, w, e or a passage's end above 65535, an event's
+ *        worker above 255), an event neither Take nor Bring
+ *    25  a file above 65536 bytes
+ *    26  buffer too short */
+#define DESK_FILE_ROOM 65536
+uint64_t desk_file_write(size_t n, size_t k, size_t start, size_t goal, size_t w, size_t e,
+                         const uint32_t *passages, size_t passages_len,
+                         const uint32_t *estimates, size_t estimates_len,
+                         const uint32_t *events, size_t events_len,
+                         uint8_t *buffer, size_t buffer_len);
 
 #ifdef __cplusplus
 }

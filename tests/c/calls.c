@@ -1,5 +1,6 @@
-/* The route desk called from C and C++: run A1 of the scope document, made singly and as a morning, with its path; the
- * refusals that numbers, lengths and pointers of a caller lead to; and that a refused call writes nothing.
+/* The route desk called from C and C++: run A1 of the scope document, made singly, as a morning and from a task file,
+ * with its path; the refusals that numbers, lengths and pointers of a caller lead to; and that a refused call writes
+ * nothing.
  * Prints how many checks passed, or the first that did not. */
 #include <stdio.h>
 #include <stdlib.h>
@@ -284,6 +285,270 @@ static void print_files(void) {
     CHECK(memcmp(text, no_file, sizeof no_file - 1) == 0 && text[sizeof no_file - 1] == '.');
 }
 
+/* ---- Task files ---- */
+
+/* A file that is made here, byte by byte. */
+static uint8_t file[DESK_FILE_ROOM + 4];
+static size_t file_len;
+
+static void put(int bytes, uint32_t number) {
+    for (; bytes > 0; bytes--) {
+        file[file_len++] = (uint8_t)number;
+        number >>= 8;
+    }
+}
+
+static void put_record(uint32_t payload, uint32_t kind) {
+    put(2, payload);
+    put(2, kind);
+}
+
+static void put_head(uint32_t n, uint32_t k, uint32_t goal) {
+    file_len = 0;
+    put_record(12, 1);
+    put(2, n);
+    put(2, k);
+    put(2, 0);
+    put(2, goal);
+    put(2, 100);
+    put(2, 101);
+}
+
+static void put_passages(int count) {
+    for (int i = 0; i < count; i++) {
+        put_record(8, 2);
+        put(2, passages[3 * (i % 6)]);
+        put(2, passages[3 * (i % 6) + 1]);
+        put(4, passages[3 * (i % 6) + 2]);
+    }
+}
+
+static void put_zeros(uint32_t n) {
+    for (uint32_t row = 0; row < n; row++) {
+        put_record(2 + 4 * n, 3);
+        put(2, row);
+        for (uint32_t column = 0; column < n; column++) {
+            put(4, 0);
+        }
+    }
+}
+
+static void put_takes(int count) {
+    for (int i = 0; i < count; i++) {
+        put_record(2, 4);
+        put(2, 0);
+    }
+}
+
+/* Task A at E 101, with the calls of run A1: 296 bytes. */
+static void put_a1(void) {
+    put_head(5, 2, 4);
+    put_passages(6);
+    put_zeros(5);
+    for (int i = 0; i < CALLS; i++) {
+        put_record(2, 4);
+        put(1, (uint32_t)run_a1[i].is_bring);
+        put(1, (uint32_t)run_a1[i].worker);
+    }
+}
+
+/* What a file is read into: rooms that are enough for any, and one place more. */
+static struct rows {
+    uint32_t numbers[DESK_FILE_NUMBERS + 1];
+    uint32_t passages[DESK_FILE_PASSAGES_ROOM + 1];
+    uint32_t estimates[DESK_FILE_ESTIMATES_ROOM + 1];
+    uint32_t events[DESK_FILE_EVENTS_ROOM + 1];
+} in, blank;
+
+static void clear(void) { memset(&in, 77, sizeof in); }
+
+static uint64_t read_to(size_t numbers_len, size_t passages_len, size_t estimates_len, size_t events_len) {
+    return desk_file_read(file, file_len, in.numbers, numbers_len, in.passages, passages_len, in.estimates,
+                          estimates_len, in.events, events_len);
+}
+
+static uint64_t read_all(void) {
+    return read_to(DESK_FILE_NUMBERS, DESK_FILE_PASSAGES_ROOM, DESK_FILE_ESTIMATES_ROOM, DESK_FILE_EVENTS_ROOM);
+}
+
+/* What a task is written to. */
+static uint8_t buffer[DESK_FILE_ROOM + 1];
+
+static uint64_t write_a(size_t n, size_t k, size_t start, size_t goal, size_t w, size_t e, size_t passages_len,
+                        size_t estimates_len, size_t events_len, size_t buffer_len) {
+    return desk_file_write(n, k, start, goal, w, e, in.passages, passages_len, in.estimates, estimates_len, in.events,
+                           events_len, buffer, buffer_len);
+}
+
+/* What was read, written again. */
+static uint64_t write_again(size_t buffer_len) {
+    const uint32_t *x = in.numbers;
+    return write_a(x[0], x[1], x[2], x[3], x[4], x[5], 3 * x[6], x[0] * x[0], x[7], buffer_len);
+}
+
+static int is_fault(uint64_t reply, unsigned number, uint32_t offset) {
+    return DESK_FILE_REFUSAL(reply) == number && DESK_FILE_OFFSET(reply) == offset &&
+           memcmp(&in, &blank, sizeof in) == 0;
+}
+
+/* The buffer is as it was from a place on. */
+static int is_kept(size_t from) {
+    for (size_t i = from; i < sizeof buffer; i++) {
+        if (buffer[i] != 88) {
+            return 0;
+        }
+    }
+    return 1;
+}
+
+static int is_unwritten(uint64_t reply, unsigned number) {
+    return DESK_FILE_REFUSAL(reply) == number && DESK_FILE_LENGTH(reply) == 0 && is_kept(0);
+}
+
+/* The file that was made is read and written again: the same bytes, and no others. */
+static void read_and_write(void) {
+    clear();
+    CHECK(read_all() == 0);
+    memset(buffer, 88, sizeof buffer);
+    CHECK(is_unwritten(write_again(file_len - 1), 26));
+    uint64_t reply = write_again(DESK_FILE_ROOM + 1);
+    CHECK(DESK_FILE_REFUSAL(reply) == 0 && DESK_FILE_LENGTH(reply) == file_len);
+    CHECK(memcmp(buffer, file, file_len) == 0 && is_kept(file_len));
+    memset(buffer, 88, sizeof buffer);
+    CHECK(DESK_FILE_LENGTH(write_again(file_len)) == file_len);
+}
+
+static void run_from_a_file(void) {
+    static const uint32_t numbers[DESK_FILE_NUMBERS] = {5, 2, 0, 4, 100, 101, 6, CALLS};
+    uint32_t row[DESK_ROW];
+    uint64_t replies[CALLS];
+    put_a1();
+    CHECK(file_len == 296);
+    read_and_write();
+    CHECK(memcmp(in.numbers, numbers, sizeof numbers) == 0);
+    CHECK(memcmp(in.numbers + DESK_FILE_NUMBERS, blank.numbers + DESK_FILE_NUMBERS, sizeof blank.numbers[0]) == 0);
+    CHECK(memcmp(in.passages, passages, sizeof passages) == 0);
+    CHECK(memcmp(in.passages + 18, blank.passages + 18, sizeof blank.passages - sizeof passages) == 0);
+    CHECK(memcmp(in.estimates, estimates, sizeof estimates) == 0);
+    CHECK(memcmp(in.estimates + 25, blank.estimates + 25, sizeof blank.estimates - sizeof estimates) == 0);
+    CHECK(memcmp(in.events + CALLS, blank.events + CALLS, (DESK_FILE_EVENTS_ROOM + 1 - CALLS) * sizeof(uint32_t)) == 0);
+    CHECK(is(desk_open(in.numbers[0], in.numbers[1], in.numbers[2], in.numbers[3], in.numbers[4], in.numbers[5],
+                       in.passages, 18, in.estimates, 25, row, DESK_ROW), DESK_OPENED, 0));
+    CHECK(is(morning_a(row, DESK_ROW, in.events, in.numbers[7], replies, CALLS), DESK_DONE, 0));
+    for (int i = 0; i < CALLS; i++) {
+        CHECK(is(replies[i], run_a1[i].kind, run_a1[i].value));
+    }
+}
+
+/* The largest files, and a smallest one, for which nothing need be lent for passages and events. */
+static void fill_rooms(void) {
+    put_head(64, 32, 63);
+    put_passages(512);
+    put_zeros(64);
+    put_takes(7101);
+    read_and_write();
+    CHECK(in.numbers[0] == 64 && in.numbers[6] == 512 && in.numbers[7] == 7101);
+    put_head(1, 1, 0);
+    put_zeros(1);
+    put_takes(10918);
+    read_and_write();
+    CHECK(in.numbers[0] == 1 && in.numbers[6] == 0 && in.numbers[7] == 10918);
+    put_head(1, 1, 0);
+    put_zeros(1);
+    read_and_write();
+    clear();
+    CHECK(desk_file_read(file, file_len, in.numbers, DESK_FILE_NUMBERS, NULL, 0, in.estimates, 1, NULL, 0) == 0);
+    CHECK(in.numbers[7] == 0 && in.estimates[0] == 0);
+    CHECK(desk_file_write(1, 1, 0, 0, 100, 101, NULL, 0, in.estimates, 1, NULL, 0, buffer, file_len) == file_len);
+    CHECK(memcmp(buffer, file, file_len) == 0);
+}
+
+/* Faults, each with its offset, and the places that are too few. */
+static void refuse_files(void) {
+    clear();
+    file_len = 0;
+    CHECK(is_fault(read_all(), 21, 0));
+    CHECK(is_fault(desk_file_read(NULL, 0, in.numbers, DESK_FILE_NUMBERS, NULL, 0, NULL, 0, NULL, 0), 21, 0));
+    put_a1();
+    file_len -= 1;
+    CHECK(is_fault(read_all(), 21, 290));
+    put_head(5, 2, 4);
+    CHECK(is_fault(read_all(), 21, 16));
+    put_record(0, 5);
+    CHECK(is_fault(read_all(), 22, 16));
+    put_head(65, 2, 4);
+    CHECK(is_fault(read_all(), 23, 0));
+    put_head(5, 2, 4);
+    put_passages(513);
+    CHECK(is_fault(read_all(), 23, 16 + 12 * 512));
+    put_head(5, 2, 4);
+    put_passages(6);
+    put_zeros(5);
+    put_takes(10887);
+    CHECK(file_len == DESK_FILE_ROOM + 4 && is_fault(read_all(), 23, 65536));
+    put_a1();
+    CHECK(is_fault(read_to(DESK_FILE_NUMBERS, 17, 25, CALLS), 27, 0));
+    CHECK(is_fault(read_to(DESK_FILE_NUMBERS, 18, 24, CALLS), 27, 0));
+    CHECK(is_fault(read_to(DESK_FILE_NUMBERS, 18, 25, CALLS - 1), 27, 0));
+    CHECK(is_fault(desk_file_read(file, file_len, in.numbers, DESK_FILE_NUMBERS, NULL, 0, NULL, 0, NULL, 0), 27, 0));
+    CHECK(is_fault(read_to(DESK_FILE_NUMBERS - 1, 18, 25, CALLS), 27, 0));
+    CHECK(is_fault(desk_file_read(NULL, 0, NULL, 0, NULL, 0, NULL, 0, NULL, 0), 27, 0));
+    CHECK(read_to(DESK_FILE_NUMBERS, 18, 25, CALLS) == 0);
+}
+
+/* Tasks that no file can carry, and places that are too few. Numbers that opening refuses are written all the same. */
+static void refuse_writing(void) {
+    static const uint32_t many[65 * 65] = {0};
+    put_a1();
+    clear();
+    CHECK(read_all() == 0);
+    memset(buffer, 88, sizeof buffer);
+    for (int i = 0; i < WIDE; i++) {
+        CHECK(is_unwritten(write_a(wide[i], 2, 0, 4, 100, 101, 18, 25, CALLS, DESK_FILE_ROOM), 24));
+    }
+    for (int i = 1; i < WIDE; i++) {
+        CHECK(is_unwritten(write_a(5, wide[i], 0, 4, 100, 101, 18, 25, CALLS, DESK_FILE_ROOM), 24));
+        CHECK(is_unwritten(write_a(5, 2, wide[i], 4, 100, 101, 18, 25, CALLS, DESK_FILE_ROOM), 24));
+        CHECK(is_unwritten(write_a(5, 2, 0, wide[i], 100, 101, 18, 25, CALLS, DESK_FILE_ROOM), 24));
+        CHECK(is_unwritten(write_a(5, 2, 0, 4, wide[i], 101, 18, 25, CALLS, DESK_FILE_ROOM), 24));
+        CHECK(is_unwritten(write_a(5, 2, 0, 4, 100, wide[i], 18, 25, CALLS, DESK_FILE_ROOM), 24));
+    }
+    CHECK(is_unwritten(write_a(0, 2, 0, 4, 100, 101, 18, 0, CALLS, DESK_FILE_ROOM), 24));
+    CHECK(is_unwritten(desk_file_write(65, 2, 0, 4, 100, 101, many, 0, many, 65 * 65, many, 0, buffer, DESK_FILE_ROOM),
+                       24));
+    CHECK(is_unwritten(write_a(5, 2, 0, 4, 100, 101, 17, 25, CALLS, DESK_FILE_ROOM), 24));
+    CHECK(is_unwritten(write_a(5, 2, 0, 4, 100, 101, 18, 24, CALLS, DESK_FILE_ROOM), 24));
+    CHECK(is_unwritten(desk_file_write(5, 2, 0, 4, 100, 101, NULL, 0, NULL, 0, NULL, 0, buffer, DESK_FILE_ROOM), 24));
+    /* 512 passages are carried, and one more isn't */
+    CHECK(is_unwritten(desk_file_write(5, 2, 0, 4, 100, 101, many, 1536, many, 25, many, 0, buffer, 100), 26));
+    CHECK(is_unwritten(desk_file_write(5, 2, 0, 4, 100, 101, many, 1539, many, 25, many, 0, buffer, DESK_FILE_ROOM),
+                       24));
+    /* a passage's end, an event's worker and an event's call */
+    in.passages[15] = 65536;
+    CHECK(is_unwritten(write_a(5, 2, 0, 4, 100, 101, 18, 25, CALLS, DESK_FILE_ROOM), 24));
+    in.passages[15] = 0;
+    in.passages[16] = 65536;
+    CHECK(is_unwritten(write_a(5, 2, 0, 4, 100, 101, 18, 25, CALLS, DESK_FILE_ROOM), 24));
+    in.passages[16] = 0;
+    in.events[CALLS - 1] = DESK_TAKE_EVENT(256);
+    CHECK(is_unwritten(write_a(5, 2, 0, 4, 100, 101, 18, 25, CALLS, DESK_FILE_ROOM), 24));
+    in.events[CALLS - 1] = DESK_BRING_EVENT(-1);
+    CHECK(is_unwritten(write_a(5, 2, 0, 4, 100, 101, 18, 25, CALLS, DESK_FILE_ROOM), 24));
+    in.events[CALLS - 1] = 131072;
+    CHECK(is_unwritten(write_a(5, 2, 0, 4, 100, 101, 18, 25, CALLS, DESK_FILE_ROOM), 24));
+    /* 24 comes before 25, and 25 before 26 */
+    memset(in.events, 0, sizeof in.events);
+    CHECK(is_unwritten(write_a(1, 2, 0, 4, 100, 65536, 0, 1, 10919, 0), 24));
+    CHECK(is_unwritten(write_a(1, 2, 0, 4, 100, 65535, 0, 1, 10919, 0), 25));
+    CHECK(is_unwritten(write_a(1, 2, 0, 4, 100, 65535, 0, 1, 10918, 65533), 26));
+    CHECK(is_unwritten(desk_file_write(1, 2, 0, 4, 100, 100, NULL, 0, in.estimates, 1, NULL, 0, NULL, 0), 26));
+    in.passages[15] = in.passages[16] = 65535;
+    in.passages[17] = DESK_BLOCKED;
+    in.estimates[24] = 4294967295u;
+    in.events[0] = DESK_BRING_EVENT(255);
+    CHECK(DESK_FILE_LENGTH(write_a(5, 65535, 65535, 65535, 65535, 65535, 18, 25, 1, 224)) == 224);
+}
+
 int main(void) {
     uint32_t row[DESK_ROW];
     run_singly(row);
@@ -297,6 +562,11 @@ int main(void) {
     lend_nothing();
     read_maps();
     print_files();
+    memset(&blank, 77, sizeof blank);
+    run_from_a_file();
+    fill_rooms();
+    refuse_files();
+    refuse_writing();
     printf("%d\n", checks);
     return 0;
 }

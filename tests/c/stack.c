@@ -47,8 +47,10 @@ static struct stack drawing = {"desk_map", DESK_STACK_MAP, NULL};
 static struct stack placing = {"desk_map_spot", DESK_STACK_MAP, NULL};
 static struct stack naming = {"desk_map_state", DESK_STACK_MAP, NULL};
 static struct stack printing = {"desk_print", DESK_STACK_PRINT, NULL};
-static struct stack *const stacks[] = {&opening, &taking,  &bringing, &serving, &reading,
-                                       &drawing, &placing, &naming,   &printing};
+static struct stack unpacking = {"desk_file_read", DESK_STACK_FILE, NULL};
+static struct stack packing = {"desk_file_write", DESK_STACK_FILE, NULL};
+static struct stack *const stacks[] = {&opening, &taking,  &bringing, &serving,   &reading, &drawing,
+                                       &placing, &naming,  &printing, &unpacking, &packing};
 enum { STACKS = sizeof stacks / sizeof stacks[0] };
 
 static void prepare(struct stack *stack) {
@@ -110,6 +112,9 @@ static struct {
     uint32_t answer;
     uint8_t text[DESK_ROOM];
     size_t text_len;
+    uint32_t numbers[DESK_FILE_NUMBERS], file_passages[DESK_FILE_PASSAGES_ROOM];
+    uint32_t file_estimates[DESK_FILE_ESTIMATES_ROOM], file_events[DESK_FILE_EVENTS_ROOM];
+    uint8_t again[DESK_FILE_ROOM];
 } *lent;
 
 static void make_task(void) {
@@ -259,6 +264,28 @@ static void make_file(void) {
     }
 }
 
+static void unpack(void) {
+    lent->reply = desk_file_read(file, file_len, lent->numbers, DESK_FILE_NUMBERS, lent->file_passages,
+                                 DESK_FILE_PASSAGES_ROOM, lent->file_estimates, DESK_FILE_ESTIMATES_ROOM,
+                                 lent->file_events, DESK_FILE_EVENTS_ROOM);
+}
+
+static void pack(void) {
+    lent->reply = desk_file_write(63, 32, 0, 62, 100, 100, lent->file_passages, 3 * 512, lent->file_estimates, 63 * 63,
+                                  lent->file_events, 7187, lent->again, DESK_FILE_ROOM);
+}
+
+static void copy_file(void) {
+    on(&unpacking, unpack);
+    if (lent->reply != 0 || lent->numbers[6] != 512 || lent->numbers[7] != 7187) {
+        fail("another reading");
+    }
+    on(&packing, pack);
+    if (DESK_FILE_LENGTH(lent->reply) != sizeof file || memcmp(lent->again, file, sizeof file) != 0) {
+        fail("another file");
+    }
+}
+
 static void print(void) { lent->text_len = desk_print(file, file_len, lent->text, DESK_ROOM); }
 
 static void print_file(void) {
@@ -281,6 +308,7 @@ int main(void) {
     search_in_a_morning();
     survey();
     print_file();
+    copy_file();
     for (int i = 0; i < STACKS; i++) {
         size_t bytes = need(stacks[i]);
         int tight = bytes + bytes / 4 > stacks[i]->size;

@@ -39,6 +39,12 @@ desk-map-spot = (λ κs a. tt, λ κs a x y p q i. (same p q i, x .1))
 pub desk-map-state : Answers f.desk_map_state.ended f.desk_map_state.Reads.Asked f.desk_map_state.Reads.Learnt
 desk-map-state = (λ κs a. tt, λ κs a x y p q i. (same p q i, x .1))
 
+pub desk-file-read : Answers f.desk_file_read.ended f.desk_file_read.Reads.Asked f.desk_file_read.Reads.Learnt
+desk-file-read = (λ κs a. tt, λ κs a x y p q i. (same (p .0) (q .0) i, (tt, (same (p .1 .0) (q .1 .0) i, (same (p .1 .1 .0) (q .1 .1 .0) i, (same (p .1 .1 .1 .0) (q .1 .1 .1 .0) i, (same (p .1 .1 .1 .1) (q .1 .1 .1 .1) i, tt)))))))
+
+pub desk-file-write : Answers f.desk_file_write.ended f.desk_file_write.Reads.Asked f.desk_file_write.Reads.Learnt
+desk-file-write = (λ κs a. tt, λ κs a x y p q i. (same (p .0) (q .0) i, (tt, (tt, (tt, (tt, (tt, (tt, (tt, (tt, (tt, (same (p .1) (q .1) i, tt))))))))))))
+
 -- row.rt
 pub unfit : Answers f.row.unfit.ended f.row.unfit.Reads.Asked f.row.unfit.Reads.Learnt
 unfit = (λ κs a. tt, λ κs a x y p q i. (same p q i, x .1))
@@ -101,6 +107,22 @@ survey-code = (λ κs a. tt, λ κs a x y p q i. (same p q i, x .1))
 
 pub spot-code : Answers f.maps.spot_code.ended f.maps.spot_code.Reads.Asked f.maps.spot_code.Reads.Learnt
 spot-code = (λ κs a. tt, λ κs a x y p q i. (same p q i, x .1))
+
+-- files.rt
+pub read-code : Fixes f.files.read_code.ended f.files.read_code.Reads.Learnt
+read-code κs a x y p q i = (same p q i, x .1)
+
+pub short-row : Answers f.files.short_row.ended f.files.short_row.Reads.Asked f.files.short_row.Reads.Learnt
+short-row = (λ κs a. tt, λ κs a x y p q i. (same p q i, x .1))
+
+pub filed-code : Answers f.files.filed_code.ended f.files.filed_code.Reads.Asked f.files.filed_code.Reads.Learnt
+filed-code = (λ κs a. tt, λ κs a x y p q i. (same p q i, x .1))
+
+pub put-contents : Fixes f.files.put_contents.ended f.files.put_contents.Reads.Learnt
+put-contents κs a x y p q i = (tt, (same p q i, (tt, tt)))
+
+pub put-numbers : Fixes f.files.put_numbers.ended f.files.put_numbers.Reads.Learnt
+put-numbers κs a x y p q i = (tt, (same p q i, (tt, tt)))
 
 -- What a weaker contract would leave open. A slice for the examples:
 abbrev some : RefT (List ℕ)

@@ -1,18 +1,22 @@
-// The desk for C: opening, Take, Bring, whole mornings, path reading, printing and maps, over numbers and lent rows of numbers.
+// The desk for C: opening, Take, Bring, whole mornings, path reading, printing, maps and task files, over numbers and lent rows of numbers.
 // include/route_desk.h declares each.
 ghost use mathlib.Core.Path.{_≡_};
 ghost use Rattle.checks.specs.Opening.{task};
 ghost use Rattle.gridmap.specs.Reading.{readMap, spotOf, stateAtSpot};
 ghost use Rattle.report.specs.Text.{reportLength, reportBuffer};
+ghost use Rattle.taskfile.specs.Writing.{writeOf};
 ghost use Rattle.deskc.specs.Maps.{surveyCode, spotCode};
+ghost use Rattle.deskc.specs.Files.{filedCode, headOf, fileRow};
 ghost use Rattle.deskc.specs.Calls.{openRow, takeRow, bringRow, morningRow, pathRow};
 
+mod files;
 mod maps;
 mod row;
 mod weights;
 
 use desk::Machine;
 use desk::Reply;
+use taskfile::Head;
 
 #[no_mangle]
 pub extern "C" fn desk_open(
@@ -165,4 +169,54 @@ pub extern "C" fn desk_map_state(text: &[u8], row: usize, column: usize) -> u32
 {
     let state = gridmap::state_at(text, row, column);
     row::wide16(state)
+}
+
+#[no_mangle]
+pub extern "C" fn desk_file_read(
+    file: &[u8],
+    numbers: &mut [u32],
+    passages: &mut [u32],
+    estimates: &mut [u32],
+    events: &mut [u32],
+) -> u64
+    ensures { λ r. ⌜ r ≡ fileRow (now (file .entry)) (now (numbers .entry)) (now (passages .entry)) (now (estimates .entry)) (now (events .entry)) .code ⌝ }
+    ensures { λ r. ⌜ now (numbers .exit) ≡ fileRow (now (file .entry)) (now (numbers .entry)) (now (passages .entry)) (now (estimates .entry)) (now (events .entry)) .numbers ⌝ }
+    ensures { λ r. ⌜ now (passages .exit) ≡ fileRow (now (file .entry)) (now (numbers .entry)) (now (passages .entry)) (now (estimates .entry)) (now (events .entry)) .passages ⌝ }
+    ensures { λ r. ⌜ now (estimates .exit) ≡ fileRow (now (file .entry)) (now (numbers .entry)) (now (passages .entry)) (now (estimates .entry)) (now (events .entry)) .estimates ⌝ }
+    ensures { λ r. ⌜ now (events .exit) ≡ fileRow (now (file .entry)) (now (numbers .entry)) (now (passages .entry)) (now (estimates .entry)) (now (events .entry)) .events ⌝ }
+{
+    if numbers.len() < 8 {
+        return files::short_row();
+    }
+    let outcome = taskfile::read(file, passages, estimates, events);
+    files::put_numbers(numbers, outcome);
+    files::read_code(outcome)
+}
+
+#[no_mangle]
+pub extern "C" fn desk_file_write(
+    n: usize,
+    k: usize,
+    start: usize,
+    goal: usize,
+    pull: usize,
+    excess: usize,
+    passages: &[u32],
+    estimates: &[u32],
+    events: &[u32],
+    buffer: &mut [u8],
+) -> u64
+    ensures { λ r. ⌜ r ≡ filedCode (writeOf (headOf n k start goal pull excess) (now (passages .entry)) (now (estimates .entry)) (now (events .entry)) (now (buffer .entry)) .reply) ⌝ }
+    ensures { λ r. ⌜ now (buffer .exit) ≡ writeOf (headOf n k start goal pull excess) (now (passages .entry)) (now (estimates .entry)) (now (events .entry)) (now (buffer .entry)) .buffer ⌝ }
+{
+    let head = Head {
+        n: n,
+        k: k,
+        start: start,
+        goal: goal,
+        pull: pull,
+        excess: excess,
+    };
+    let filed = taskfile::write(head, passages, estimates, events, buffer);
+    files::filed_code(filed)
 }

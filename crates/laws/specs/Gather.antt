@@ -4,6 +4,7 @@ use mathlib.Core.Path.{_≡_, refl, _∙_}
 use mathlib.Core.Bool.{Bool, true, false, cond}
 use mathlib.Core.List.{List, [], _∷_, _++_, append-nil}
 use Prim.Native.Nat.{ℕ, zero, suc, _+_, _*_, _≤_, _<_}
+use native.Mathlib.Nat.{suc-mul}
 use native.Mathlib.Decide.{ℕ-discrete}
 use native.Mathlib.Numerals.{add-one}
 use native.Mathlib.Omega.{arith}
@@ -51,6 +52,12 @@ module _ {X : Type 0} (f : ℕ → List X) where
       go : (j < n → getD (gathered f n) (length (gathered f j) + k) d ≡ getD (f j) k d) → Dec (j ≡ n) → getD (gathered f (suc n)) (length (gathered f j) + k) d ≡ getD (f j) k d
       go ih (yes e) = rw e (getD-append-add (gathered f n) (f n) k d)
       go ih (no q) = List·getD-append (gathered f n) (f n) d (length (gathered f j) + k) (omega (arith, gathered-room n j (omega arith))) ∙ ih (omega arith)
+
+-- pieces that are w long each
+pub gathered-even : {X : Type 0} (f : ℕ → List X) (w : ℕ) → ((i : ℕ) → length (f i) ≡ w) → (n : ℕ) → length (gathered f n) ≡ n * w
+unfolding gathered
+gathered-even f w each zero = omega arith
+gathered-even f w each (suc i) = rw (length-append, gathered-even f w each i, each i, suc-mul)
 
 -- pieces that are empty or w long: by how many of them come before
 module _ {X : Type 0} (f : ℕ → List X) (q : ℕ → Bool) (w : ℕ) (long : (j : ℕ) → length (f j) ≡ w * one (q j)) where

@@ -37,6 +37,11 @@ pub cond-either : {A : Type 0} (P : A → Type 0) (b : Bool) (first second : A) 
 cond-either P true first second p q = p
 cond-either P false first second p q = q
 
+-- the same, where each side has what the test came to
+pub cond-cases : {A : Type 0} (P : A → Type 0) (b : Bool) (first second : A) → (b ≡ true → P first) → (b ≡ false → P second) → P (cond b first second)
+cond-cases P true first second p q = p refl
+cond-cases P false first second p q = q refl
+
 -- "The first that applies is given": what a call comes to, provided that a condition holds; else the refusal beside it.
 abbrev pub provided : {A : Type 0} → Bool → A → A → A
 provided true refusal call = call
@@ -47,7 +52,11 @@ pub provided-either : {A : Type 0} (P : A → Type 0) (ok : Bool) (refusal call 
 provided-either P true refusal call r c = c refl
 provided-either P false refusal call r c = r
 
+-- what doesn't hold of the refusal and holds of both together: the condition holds, and it holds of the call
+pub provided-held : {A : Type 0} (P : A → Type 0) (ok : Bool) (refusal call : A) → (P refusal → ⊥) → P (provided ok refusal call) → (ok ≡ true) × P call
+provided-held P true refusal call n p = (refl, p)
+provided-held P false refusal call n p = absurd (n p)
+
 -- a ladder that comes to 0 beside a refusal that isn't 0: its condition holds, and the rest comes to 0
 pub provided-kept : (ok : Bool) (refusal call : ℕ) → (refusal ≡ 0 → ⊥) → provided ok refusal call ≡ 0 → (ok ≡ true) × (call ≡ 0)
-provided-kept true refusal call n e = (refl, e)
-provided-kept false refusal call n e = absurd (n e)
+provided-kept ok refusal call n e = provided-held (λ x. x ≡ 0) ok refusal call n e

@@ -22,8 +22,10 @@ use Rattle.desk.specs.Bring.{applyPassage, sweepOf, bringStep, bringOf}
 use Rattle.desk.specs.Path.{pathOf}
 use Rattle.desk.specs.Calls.{answers, replies, after}
 use Rattle.desk.specs.Morning.{eventsOf, eventsRight, morningFault, morningOf}
+use Rattle.taskfile.specs.Bytes.{numberAt, bytesOf, beyond}
 use Rattle.taskfile.specs.Scan.{headAt, passageAt, rowAt, callAt, recordAt, advance, scanned}
 use Rattle.taskfile.specs.Contents.{filePassages, fileEstimates, fileCalls, roomyFor, readOf}
+use Rattle.taskfile.specs.Writing.{sizesCarried, headCarried, endsCarried, callsCarried, carried, headRecord, passageRecord, rowRecord, callRecord, fileOf, writeOf}
 use Rattle.gridmap.specs.Text.{byte, isWord, digit, digits, number, isSize, widthAt, rowsAt, headRight}
 use Rattle.gridmap.specs.Map.{mapOf, isOpen, isClosed, rowsRight, openAt, cells, stateOf, stateCount, countRight}
 use Rattle.gridmap.specs.Passages.{free, rowTo, columnTo, linked, isPassage, leadsTo, passage, passagesOf, passagesMany}
@@ -34,5 +36,5 @@ use Rattle.report.specs.Line.{numbers, spoken}
 use Rattle.report.specs.Text.{conversation, session, taskText, printed}
 
 unfoldable pub definitions : Type 0
-unfolding fold first least count all made gathered picked isClear independent holdsBack lowers sizesRight endsRight weightsRight passagesRight estimatesRight passagesBound detoursBy detoursFrom detoursBound earlyFault fault marksRight labelsRight workersRight holders heldOnce dependsOn firstDependence safe key choice foremost anyOpen anyOut firstMarked waitedFor decision isHome isLinked goBack rowsFit fits codeOf openedMachine blankMachine openingOf admitted takeStep takeOf applyPassage sweepOf bringStep bringOf pathOf answers replies after eventsOf eventsRight morningFault morningOf headAt passageAt rowAt callAt recordAt advance scanned filePassages fileEstimates fileCalls roomyFor readOf byte isWord digit digits number isSize widthAt rowsAt headRight mapOf isOpen isClosed rowsRight openAt cells stateOf stateCount countRight free rowTo columnTo linked isPassage leadsTo passage passagesOf passagesMany gap octile between estimatesOf mapFault roomy readMap decimalIn numbers spoken conversation session taskText printed
+unfolding fold first least count all made gathered picked isClear independent holdsBack lowers sizesRight endsRight weightsRight passagesRight estimatesRight passagesBound detoursBy detoursFrom detoursBound earlyFault fault marksRight labelsRight workersRight holders heldOnce dependsOn firstDependence safe key choice foremost anyOpen anyOut firstMarked waitedFor decision isHome isLinked goBack rowsFit fits codeOf openedMachine blankMachine openingOf admitted takeStep takeOf applyPassage sweepOf bringStep bringOf pathOf answers replies after eventsOf eventsRight morningFault morningOf numberAt bytesOf beyond headAt passageAt rowAt callAt recordAt advance scanned filePassages fileEstimates fileCalls roomyFor readOf sizesCarried headCarried endsCarried callsCarried carried headRecord passageRecord rowRecord callRecord fileOf writeOf byte isWord digit digits number isSize widthAt rowsAt headRight mapOf isOpen isClosed rowsRight openAt cells stateOf stateCount countRight free rowTo columnTo linked isPassage leadsTo passage passagesOf passagesMany gap octile between estimatesOf mapFault roomy readMap decimalIn numbers spoken conversation session taskText printed
 definitions = Unit

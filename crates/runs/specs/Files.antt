@@ -1,14 +1,25 @@
--- "Task file and deskrun", and order 3's maps: file faults with their offsets, what is read and printed, and the refusals of a map and what is drawn.
-use mathlib.Core.Path.{_≡_, refl}
+-- "Task file and deskrun", order 6's writing and order 3's maps: file faults with their offsets, what is read and printed, what is written and what can't be, and the refusals of a map and what is drawn.
+use mathlib.Core.Path.{_≡_, refl, _∙_}
 use mathlib.Core.Bool.{true}
 use mathlib.Core.List.{List, [], _∷_, _++_, map}
-use Prim.Native.Nat.{ℕ, _+_, _*_}
+use Prim.Native.Nat.{ℕ, _+_, _*_, _≤_}
 use Prim.Native.String.{String}
-use lib.ListN.{replicate, take as front, drop}
+use native.Mathlib.Omega.{arith}
+use lib.ListN.{length, replicate, take as front, drop, length-replicate, getD-replicate}
+use lib.Dec.{leb}
+use borrow.Author.Tests.{lt-leb}
+use Rattle.laws.specs.Truth.{provided}
+use Rattle.taskfile.specs.declared.Head.{Head}
 use Rattle.taskfile.specs.declared.Outcome.{Outcome}
 use Rattle.taskfile.specs.declared.Outcome.the-variants.{Read, Fault}
+use Rattle.taskfile.specs.declared.Filed.{Filed}
+use Rattle.taskfile.specs.declared.Filed.the-variants.{Written, Refused as Unwritten}
+use Rattle.taskfile.specs.Bytes.{beyond}
 use Rattle.taskfile.specs.Scan.{advance}
 use Rattle.taskfile.specs.Contents.{readOf}
+use Rattle.taskfile.specs.Writing.{fileOf, FileWriting, unwritten, writeOf}
+use Rattle.taskfile.specs.CarriedLaws.{Carried, carried-is}
+use Rattle.taskfile.specs.WritingLaws.{file-length}
 use Rattle.gridmap.specs.declared.Survey.{Survey}
 use Rattle.gridmap.specs.declared.Survey.the-variants.{Drawn, Refused}
 use Rattle.gridmap.specs.Map.{mapOf, countRight}
@@ -59,6 +70,57 @@ outcome file = readOf file (replicate 4 9) (replicate 2 9) (replicate 3 9) .outc
 abbrev status : ℕ → ℕ
 status passages = advance (one ++ passage) (record { at = 16; n = 1; passages = passages; rows = 0; calls = 0; status = 0 }) .status
 
+-- a task's six numbers, and those of `one`
+abbrev six : ℕ → ℕ → ℕ → ℕ → ℕ → ℕ → Head
+six n k start goal pull excess = record { n = n; k = k; start = start; goal = goal; pull = pull; excess = excess }
+
+abbrev lone : Head
+lone = six 1 1 0 0 100 100
+
+-- writing what `whole` holds to a buffer of so many places with a 9 in each: the reply, and the buffer
+abbrev write : ℕ → Filed × List ℕ
+write places =
+    let w = writeOf lone (0 ∷ 0 ∷ 67305985 ∷ []) (0 ∷ []) (3 ∷ 65539 ∷ []) (replicate places 9) in
+    (w .reply, w .buffer)
+
+-- the reply alone, where the buffer has no place: 26 unless something else stands against it. (Order 6's Refused is called Unwritten here.)
+abbrev filed : Head → List ℕ → List ℕ → List ℕ → Filed
+filed t passages estimates calls = writeOf t passages estimates calls [] .reply
+
+-- a task of three states with so many passages and events, where all of these and the estimates are 0: writing it to a buffer of one place, and how long its file is
+abbrev three : Head
+three = six 3 1 0 0 100 100
+
+abbrev filling : ℕ → ℕ → FileWriting
+filling passages calls = writeOf three (replicate (3 * passages) 0) (replicate 9 0) (replicate calls 0) (9 ∷ [])
+
+abbrev fillingLength : ℕ → ℕ → ℕ
+fillingLength passages calls = 16 + 12 * passages + 3 * 18 + 6 * calls
+
+-- To compute 65,536 bytes would take too long, so this comes from the laws of what a file carries and how long it is.
+module _ (passages calls : ℕ) (few : passages ≤ 512) where
+  filling-carried : Carried three (replicate (3 * passages) 0) (replicate 9 0) (replicate calls 0)
+  unfolding beyond
+  filling-carried =
+      let thirds = length-replicate {A = ℕ} (3 * passages) 0 in
+      record {
+        some = omega arith;
+        small = omega arith;
+        thirds = omega arith;
+        few = omega arith;
+        square = refl;
+        head = (omega arith, omega arith, omega arith, omega arith, omega arith);
+        ends = λ i l. (rw (getD-replicate {A = ℕ} (3 * passages) (3 * i) 0 0 (omega arith)) (omega arith), rw (getD-replicate {A = ℕ} (3 * passages) (3 * i + 1) 0 0 (omega arith)) (omega arith));
+        call = λ i l. rw (getD-replicate {A = ℕ} calls i 0 0 (omega (arith, length-replicate {A = ℕ} calls 0))) (omega arith, omega arith);
+      }
+
+  filling-length : length (fileOf three (replicate (3 * passages) 0) (replicate 9 0) (replicate calls 0)) ≡ fillingLength passages calls
+  filling-length = file-length _ _ _ _ ∙ omega (arith, length-replicate {A = ℕ} (3 * passages) 0, length-replicate {A = ℕ} calls 0)
+
+  filling-is : filling passages calls ≡ provided (leb (fillingLength passages calls) 65536) (unwritten 25 (9 ∷ [])) (unwritten 26 (9 ∷ []))
+  unfolding writeOf
+  filling-is = rw (carried-is _ _ _ _ filling-carried, filling-length, lt-leb (fillingLength passages calls) 1 (omega arith))
+
 -- a map's text by its second and third line, and its rows
 abbrev drawing : String → String → List String → List ℕ
 drawing height width rows = lines ("type octile" ∷ height ∷ width ∷ "map" ∷ rows)
@@ -103,6 +165,57 @@ pub record Files : Type 0 where
   pub file-27 :
       read whole 2 2 3 ∷ read whole 4 0 3 ∷ read whole 4 2 1 ∷ read (whole ++ (0 ∷ [])) 0 0 0 ∷ [] ≡
       (Fault 27 0, replicate 2 9, replicate 2 9, replicate 3 9) ∷ (Fault 27 0, replicate 4 9, [], replicate 3 9) ∷ (Fault 27 0, replicate 4 9, replicate 2 9, 9 ∷ []) ∷ (Fault 21 50, [], [], []) ∷ []
+  -- Order 6: "Write a task and a list of events as a task file into a lent buffer; the bytes after it stay."
+  pub write-whole : write 50 ∷ write 52 ∷ [] ≡ (Written 50, whole) ∷ (Written 50, whole ++ (9 ∷ 9 ∷ [])) ∷ []
+  -- "n, k, start, goal, W, E, two bytes each"; "row number (two), then n estimates of four bytes; rows 0 to n − 1 in order": h(a,b) from a × n + b
+  pub write-rows : writeOf (six 2 1 2 3 4 5) [] (6 ∷ 7 ∷ 8 ∷ 9 ∷ []) [] (replicate 44 0) .buffer ≡
+      head 2 1 2 3 4 5 ++ (
+      10 ∷ 0 ∷ 3 ∷ 0 ∷ 0 ∷ 0 ∷ 6 ∷ 0 ∷ 0 ∷ 0 ∷ 7 ∷ 0 ∷ 0 ∷ 0 ∷
+      10 ∷ 0 ∷ 3 ∷ 0 ∷ 1 ∷ 0 ∷ 8 ∷ 0 ∷ 0 ∷ 0 ∷ 9 ∷ 0 ∷ 0 ∷ 0 ∷ [])
+  -- "Reading what was written gives the same task and events"
+  pub write-read : read (front 50 (write 52 .1)) 4 2 3 ≡
+      (Read (record { n = 1; k = 1; start = 0; goal = 0; pull = 100; excess = 100; passages = 1; calls = 2 }), 0 ∷ 0 ∷ 67305985 ∷ 9 ∷ [], 0 ∷ 9 ∷ [], 3 ∷ 65539 ∷ 9 ∷ [])
+  -- 24 "n not 1 to 64": with n × n estimates
+  pub write-24-n : map (λ n. filed (six n 1 0 0 100 100) [] (replicate (n * n) 0) []) (0 ∷ 1 ∷ 64 ∷ 65 ∷ []) ≡ Unwritten 24 ∷ Unwritten 26 ∷ Unwritten 26 ∷ Unwritten 24 ∷ []
+  -- "passage slice not a multiple of 3"
+  pub write-24-thirds : map (λ long. filed lone (replicate long 0) (0 ∷ []) []) (2 ∷ 3 ∷ 4 ∷ []) ≡ Unwritten 24 ∷ Unwritten 26 ∷ Unwritten 24 ∷ []
+  -- "or above 512 passages"
+  pub write-24-512 : filling 512 0 ≡ unwritten 26 (9 ∷ [])
+  pub write-24-513 : filling 513 0 ≡ unwritten 24 (9 ∷ [])
+  -- "estimate slice not n × n"
+  pub write-24-estimates : map (λ long. filed (six 2 1 0 0 100 100) [] (replicate long 0) []) (3 ∷ 4 ∷ 5 ∷ []) ≡ Unwritten 24 ∷ Unwritten 26 ∷ Unwritten 24 ∷ []
+  -- "a field above its bytes": k, start, goal, W and E
+  pub write-24-head :
+      map (λ t. filed t [] (0 ∷ []) []) (
+      six 1 65535 65535 65535 65535 65535 ∷
+      six 1 65536 0 0 100 100 ∷
+      six 1 1 65536 0 100 100 ∷
+      six 1 1 0 65536 100 100 ∷
+      six 1 1 0 0 65536 100 ∷
+      six 1 1 0 0 100 65536 ∷ []) ≡
+      Unwritten 26 ∷ replicate 5 (Unwritten 24)
+  -- a passage's ends; any cost fits its four bytes
+  pub write-24-ends :
+      map (λ passages. filed lone passages (0 ∷ []) []) (
+      (65535 ∷ 65535 ∷ 4294967295 ∷ []) ∷
+      (65536 ∷ 0 ∷ 0 ∷ []) ∷
+      (0 ∷ 65536 ∷ 0 ∷ []) ∷
+      (0 ∷ 0 ∷ 0 ∷ 65536 ∷ 0 ∷ 0 ∷ []) ∷ []) ≡
+      Unwritten 26 ∷ replicate 3 (Unwritten 24)
+  -- and a worker, of a Take and of a Bring: 255 and 256
+  pub write-24-worker :
+      map (λ event. filed lone [] (0 ∷ []) (event ∷ [])) (255 ∷ 256 ∷ 65791 ∷ 65792 ∷ []) ≡
+      Unwritten 26 ∷ Unwritten 24 ∷ Unwritten 26 ∷ Unwritten 24 ∷ []
+  -- "an event neither Take nor Bring": a Bring, and then one with a call of 2 behind it
+  pub write-24-event : map (filed lone [] (0 ∷ [])) ((65536 ∷ []) ∷ (65536 ∷ 131072 ∷ []) ∷ []) ≡ Unwritten 26 ∷ Unwritten 24 ∷ []
+  -- "Refusals, in order": 24, though the file would have 65,542 bytes, and the buffer has no place
+  pub write-24-first : filed (six 3 65536 0 0 100 100) [] (replicate 9 0) (replicate 10912 0) ≡ Unwritten 24
+  -- "25 a file above 65,536 bytes", before 26: a file of 65,536 bytes, and one of 65,542
+  pub write-25-not : filling 0 10911 ≡ unwritten 26 (9 ∷ [])
+  pub write-25 : filling 0 10912 ≡ unwritten 25 (9 ∷ [])
+  -- "26 buffer too short". A refusal leaves the buffer, also one that is long enough.
+  pub write-26 : write 49 ≡ (Unwritten 26, replicate 49 9)
+  pub write-nothing : writeOf lone [] [] [] (replicate 26 9) .buffer ≡ replicate 26 9
   -- "a word, the worker, a number where there is one (`took` state, `brought` count, `found` cost, `refused` number, `wait` and `nopath` none). After `found` comes a `path` line with the states."
   pub text-found : printed (one ++ (row 1 0 ++ (call 0 0 ++ call 1 200))) ≡ lines ("found 0 0" ∷ "path 0" ∷ "refused 200 9" ∷ [])
   pub text-nopath : printed (head 2 1 0 1 100 100 ++ (row 2 0 ++ (row 2 1 ++ (call 0 0 ++ (call 1 0 ++ call 0 0))))) ≡ lines ("took 0 0" ∷ "brought 0 0" ∷ "nopath 0" ∷ [])
@@ -167,6 +280,23 @@ files = record {
   file-23-passages = refl;
   file-23-bytes = refl;
   file-27 = refl;
+  write-whole = refl;
+  write-rows = refl;
+  write-read = refl;
+  write-24-n = refl;
+  write-24-thirds = refl;
+  write-24-512 = filling-is 512 0 (omega arith);
+  write-24-513 = refl;
+  write-24-estimates = refl;
+  write-24-head = refl;
+  write-24-ends = refl;
+  write-24-worker = refl;
+  write-24-event = refl;
+  write-24-first = refl;
+  write-25-not = filling-is 0 10911 (omega arith);
+  write-25 = filling-is 0 10912 (omega arith);
+  write-26 = refl;
+  write-nothing = refl;
   text-found = refl;
   text-nopath = refl;
   text-fault = refl;

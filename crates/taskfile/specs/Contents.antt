@@ -12,18 +12,9 @@ use Rattle.taskfile.specs.declared.Contents.{Contents}
 use Rattle.taskfile.specs.declared.Outcome.{Outcome}
 use Rattle.taskfile.specs.declared.Outcome.the-variants.{Read, Fault}
 use Rattle.taskfile.specs.declared.Scan.{Scan}
-use Rattle.taskfile.specs.Bytes.{byte, word, long}
+use Rattle.taskfile.specs.Bytes.{byte, numberAt, word, long}
+use Rattle.taskfile.specs.Records.{workerWidth, eventOf, mostBytes, passagePlace, rowPlace, callPlace}
 use Rattle.taskfile.specs.Scan.{tooLarge, shortSlice, allRead, scanned}
-
--- the first byte of passage i, of row r and of call i, in a file with this many passages and states
-abbrev pub passagePlace : ℕ → ℕ
-passagePlace i = 16 + 12 * i
-
-abbrev pub rowPlace : ℕ → ℕ → ℕ → ℕ
-rowPlace passages n r = passagePlace passages + r * (6 + 4 * n)
-
-abbrev pub callPlace : ℕ → ℕ → ℕ → ℕ
-callPlace passages n i = rowPlace passages n n + 6 * i
 
 -- the passages: from, to, cost
 unfoldable pub filePassages : List ℕ → ℕ → List ℕ
@@ -33,9 +24,9 @@ filePassages file many = gathered (λ i. word file (passagePlace i + 4) ∷ word
 unfoldable pub fileEstimates : List ℕ → ℕ → ℕ → List ℕ
 fileEstimates file passages n = gathered (λ r. made (λ c. long file (rowPlace passages n r + 6 + 4 * c)) n) n
 
--- a call as one number: 65,536 × call + worker
+-- the calls, each as one number
 unfoldable pub fileCalls : List ℕ → ℕ → ℕ → ℕ → List ℕ
-fileCalls file passages n many = made (λ i. 65536 * byte file (callPlace passages n i + 4) + byte file (callPlace passages n i + 5)) many
+fileCalls file passages n many = made (λ i. eventOf (byte file (callPlace passages n i + 4)) (numberAt workerWidth file (callPlace passages n i + 5))) many
 
 -- the head's six numbers, n as it was scanned, and how many passages and calls there are
 abbrev pub contents : List ℕ → Scan → Contents
@@ -68,7 +59,7 @@ roomyFor s passages estimates calls = leb (3 * s .passages) passages && (leb (s 
 unfoldable pub readOf : List ℕ → List ℕ → List ℕ → List ℕ → FileReading
 readOf file passages estimates calls =
     let s = scanned file in
-    provided (leb (length file) 65536) (fileFault tooLarge 65536 passages estimates calls)
+    provided (leb (length file) mostBytes) (fileFault tooLarge 65536 passages estimates calls)
     (provided (eqb (s .status) allRead) (fileFault (s .status) (s .at) passages estimates calls)
     (provided (roomyFor s (length passages) (length estimates) (length calls)) (fileFault shortSlice 0 passages estimates calls)
     (record {

@@ -8,14 +8,22 @@ use native.Mathlib.Omega.{arith}
 use lib.ListN.{length}
 use lib.Dec.{ltb, leb, eqb}
 use borrow.Author.Tests.{leb-true, leb-false, ltb-true, eqb-true, eq-eqb, ne-eqb, le-leb, lt-leb}
-use Rattle.laws.specs.Truth.{and-left, and-right, provided-either}
+use Rattle.laws.specs.Truth.{and-left, and-right, cond-cases, provided-either}
 use Rattle.laws.specs.Fold.{fold, fold-more, fold-still}
 use Rattle.laws.specs.Part.{overlaid}
 use Rattle.taskfile.specs.declared.Scan.{Scan}
-use Rattle.taskfile.specs.declared.Outcome.the-variants.{Read}
+use Rattle.taskfile.specs.declared.Contents.{Contents}
+use Rattle.taskfile.specs.declared.Outcome.{Outcome}
+use Rattle.taskfile.specs.declared.Outcome.the-variants.{Read, Fault}
 use Rattle.taskfile.specs.Bytes.{byte, word}
+use Rattle.taskfile.specs.BytesLaws.{word-is}
+use Rattle.taskfile.specs.Records.{payloadPlace, headLength, passageLength, rowLength, callLength, rowPlace, callPlace}
 use Rattle.taskfile.specs.Scan.{payloadLength, kind, begun, stopped, complete, headAt, passageAt, rowAt, callAt, recordAt, advance, scanned}
-use Rattle.taskfile.specs.Contents.{rowPlace, callPlace, contents, filePassages, fileEstimates, fileCalls, fileFault, roomyFor, readOf}
+use Rattle.taskfile.specs.Contents.{contents, filePassages, fileEstimates, fileCalls, FileReading, fileFault, roomyFor, readOf}
+
+-- a row's record: its length and kind, its number and its estimates
+pub row-width : (n : ℕ) → payloadPlace + rowLength n ≡ 6 + 4 * n
+row-width n = omega arith
 
 -- the record at the scan's place is whole, in a file that is not too long
 pub record Inside (file : List ℕ) (s : Scan) : Type 0 where
@@ -28,13 +36,8 @@ pub record Placed (file : List ℕ) (s : Scan) : Type 0 where
   pub few : s .passages ≤ 512
   pub inside : s .at ≤ length file
   pub headless : s .n ≡ 0 → ((s .at ≡ 0) × (s .passages ≡ 0)) × ((s .rows ≡ 0) × (s .calls ≡ 0))
-  pub place : 1 ≤ s .n → s .at ≡ rowPlace (s .passages) (s .n) (s .rows) + 6 * s .calls
+  pub place : 1 ≤ s .n → s .at ≡ rowPlace (s .passages) (s .n) (s .rows) + (payloadPlace + callLength) * s .calls
   pub ended : s .status ≡ 1 → (complete s ≡ true) × (length file ≤ s .at)
-
--- what holds of both sides of a test holds of what it chooses
-cond-either : {A : Type 0} (P : A → Type 0) (t : Bool) (a b : A) → (t ≡ true → P a) → (t ≡ false → P b) → P (cond t a b)
-cond-either P true a b f g = f refl
-cond-either P false a b f g = g refl
 
 -- the start is placed, and each record and each stop leave a placed scan
 module _ (file : List ℕ) where
@@ -59,11 +62,11 @@ module _ (file : List ℕ) where
       placed-head : Placed file (headAt file s)
       unfolding headAt
       placed-head =
-          provided-either (Placed file) (eqb (s .n) 0 && eqb (payloadLength file (s .at)) 12) _ _ (placed-fault 22 (λ e. omega arith))
+          provided-either (Placed file) (eqb (s .n) 0 && eqb (payloadLength file (s .at)) headLength) _ _ (placed-fault 22 (λ e. omega arith))
           (λ t. provided-either (Placed file) (leb 1 (word file (s .at + 4)) && leb (word file (s .at + 4)) 64) _ _ (placed-fault 23 (λ e. omega arith))
           (λ u.
           let h = p .headless (eqb-true (s .n) 0 (and-left _ _ t)) in
-          let q = eqb-true (payloadLength file (s .at)) 12 (and-right (eqb (s .n) 0) _ t) in
+          let q = eqb-true (payloadLength file (s .at)) headLength (and-right (eqb (s .n) 0) _ t) in
           let one = leb-true 1 (word file (s .at + 4)) (and-left _ _ u) in
           record {
             small = leb-true (word file (s .at + 4)) 64 (and-right (leb 1 (word file (s .at + 4))) _ u);
@@ -77,11 +80,11 @@ module _ (file : List ℕ) where
       placed-passage : Placed file (passageAt file s)
       unfolding passageAt
       placed-passage =
-          provided-either (Placed file) (leb 1 (s .n) && (eqb (s .rows) 0 && eqb (payloadLength file (s .at)) 8)) _ _ (placed-fault 22 (λ e. omega arith))
+          provided-either (Placed file) (leb 1 (s .n) && (eqb (s .rows) 0 && eqb (payloadLength file (s .at)) passageLength)) _ _ (placed-fault 22 (λ e. omega arith))
           (λ t. provided-either (Placed file) (ltb (s .passages) 512) _ _ (placed-fault 23 (λ e. omega arith))
           (λ u.
           let one = leb-true 1 (s .n) (and-left _ _ t) in
-          let q = eqb-true (payloadLength file (s .at)) 8 (and-right (eqb (s .rows) 0) _ (and-right (leb 1 (s .n)) _ t)) in
+          let q = eqb-true (payloadLength file (s .at)) passageLength (and-right (eqb (s .rows) 0) _ (and-right (leb 1 (s .n)) _ t)) in
           record {
             small = p .small;
             few = omega (arith, ltb-true (s .passages) 512 u);
@@ -94,26 +97,26 @@ module _ (file : List ℕ) where
       placed-row : Placed file (rowAt file s)
       unfolding rowAt
       placed-row =
-          provided-either (Placed file) (ltb (s .rows) (s .n) && (eqb (payloadLength file (s .at)) (2 + 4 * s .n) && eqb (word file (s .at + 4)) (s .rows))) _ _ (placed-fault 22 (λ e. omega arith))
+          provided-either (Placed file) (ltb (s .rows) (s .n) && (eqb (payloadLength file (s .at)) (rowLength (s .n)) && eqb (word file (s .at + 4)) (s .rows))) _ _ (placed-fault 22 (λ e. omega arith))
           (λ t.
           let one = ltb-true (s .rows) (s .n) (and-left _ _ t) in
-          let q = eqb-true (payloadLength file (s .at)) (2 + 4 * s .n) (and-left _ _ (and-right (ltb (s .rows) (s .n)) _ t)) in
+          let q = eqb-true (payloadLength file (s .at)) (rowLength (s .n)) (and-left _ _ (and-right (ltb (s .rows) (s .n)) _ t)) in
           record {
             small = p .small;
             few = p .few;
             inside = omega (arith, q, whole);
             headless = λ z. absurd (omega (arith, z, one));
-            place = λ l. omega (arith, p .place l, add-mul (s .rows) 1 (6 + 4 * s .n));
+            place = λ l. omega (arith, p .place l, add-mul (s .rows) 1 (payloadPlace + rowLength (s .n)));
             ended = λ e. absurd (omega (arith, e));
           })
 
       placed-call : Placed file (callAt file s)
       unfolding callAt
       placed-call =
-          provided-either (Placed file) (complete s && (eqb (payloadLength file (s .at)) 2 && leb (byte file (s .at + 4)) 1)) _ _ (placed-fault 22 (λ e. omega arith))
+          provided-either (Placed file) (complete s && (eqb (payloadLength file (s .at)) callLength && leb (byte file (s .at + 4)) 1)) _ _ (placed-fault 22 (λ e. omega arith))
           (λ t.
           let one = leb-true 1 (s .n) (and-left _ _ (and-left (complete s) _ t)) in
-          let q = eqb-true (payloadLength file (s .at)) 2 (and-left _ _ (and-right (complete s) _ t)) in
+          let q = eqb-true (payloadLength file (s .at)) callLength (and-left _ _ (and-right (complete s) _ t)) in
           record {
             small = p .small;
             few = p .few;
@@ -126,10 +129,10 @@ module _ (file : List ℕ) where
       placed-record : Placed file (recordAt file s)
       unfolding recordAt
       placed-record =
-          cond-either (Placed file) (eqb (kind file (s .at)) 1) _ _ (λ _. placed-head)
-          (λ _. cond-either (Placed file) (eqb (kind file (s .at)) 2) _ _ (λ _. placed-passage)
-          (λ _. cond-either (Placed file) (eqb (kind file (s .at)) 3) _ _ (λ _. placed-row)
-          (λ _. cond-either (Placed file) (eqb (kind file (s .at)) 4) _ _ (λ _. placed-call)
+          cond-cases (Placed file) (eqb (kind file (s .at)) 1) _ _ (λ _. placed-head)
+          (λ _. cond-cases (Placed file) (eqb (kind file (s .at)) 2) _ _ (λ _. placed-passage)
+          (λ _. cond-cases (Placed file) (eqb (kind file (s .at)) 3) _ _ (λ _. placed-row)
+          (λ _. cond-cases (Placed file) (eqb (kind file (s .at)) 4) _ _ (λ _. placed-call)
           (λ _. placed-fault 22 (λ e. omega arith)))))
 
     placed-end : length file ≤ s .at → Placed file (stopped s (cond (complete s) 1 21))
@@ -142,8 +145,8 @@ module _ (file : List ℕ) where
     placed-advance : Placed file (advance file s)
     unfolding advance
     placed-advance =
-        cond-either (Placed file) (eqb (s .status) 0) _ _
-        (λ _. cond-either (Placed file) (leb (length file) (s .at)) _ _ (λ t. placed-end (leb-true (length file) (s .at) t))
+        cond-cases (Placed file) (eqb (s .status) 0) _ _
+        (λ _. cond-cases (Placed file) (leb (length file) (s .at)) _ _ (λ t. placed-end (leb-true (length file) (s .at) t))
         (λ f. provided-either (Placed file) (leb 4 (length file - s .at)) _ _ (placed-fault 21 (λ e. omega arith))
         (λ t. provided-either (Placed file) (leb (payloadLength file (s .at)) (length file - s .at - 4)) _ _ (placed-fault 21 (λ e. omega arith))
         (λ u. placed-record (omega (arith, leb-true 4 (length file - s .at) t, leb-true (payloadLength file (s .at)) (length file - s .at - 4) u))))))
@@ -196,7 +199,7 @@ scanned-is file s e d =
     let p = placed file s (length file + 1) e in
     let h = p .ended d in
     let q : s .rows ≡ s .n = eqb-true (s .rows) (s .n) (and-right (leb 1 (s .n)) _ (h .0)) in
-    let stands : s .at ≡ rowPlace (s .passages) (s .n) (s .rows) + 6 * s .calls = p .place (leb-true 1 (s .n) (and-left _ _ (h .0))) in
+    let stands : s .at ≡ rowPlace (s .passages) (s .n) (s .rows) + (payloadPlace + callLength) * s .calls = p .place (leb-true 1 (s .n) (and-left _ _ (h .0))) in
     record { small = p .small; few = p .few; filled = omega (arith, rw q at stands, h .1, p .inside) }
 
 -- reading, by what the scan and the slices come to
@@ -240,3 +243,40 @@ roomy s passages estimates calls e =
       estimates-in = leb-true (s .n * s .n) estimates (and-left _ _ f);
       calls-in = leb-true (s .calls) calls (and-right (leb (s .n * s .n) estimates) _ f);
     }
+
+-- what reading replies is small: fields of two bytes, counts that a file has room for, an offset no further than a file is long
+pub record Small (held : Contents) : Type 0 where
+  pub states : held .n ≤ 64
+  pub workers : held .k < 65536
+  pub start-in : held .start < 65536
+  pub goal-in : held .goal < 65536
+  pub pull-in : held .pull < 65536
+  pub excess-in : held .excess < 65536
+  pub passages-in : held .passages ≤ 512
+  pub calls-in : held .calls < 65536
+
+abbrev pub SmallOutcome : Outcome → Type 0
+SmallOutcome (Read held) = Small held
+SmallOutcome (Fault number offset) = offset ≤ 65536
+
+pub read-small : (file passages estimates calls : List ℕ) → ((i : ℕ) → byte file i < 256) → SmallOutcome (readOf file passages estimates calls .outcome)
+unfolding readOf scanned
+read-small file passages estimates calls octet =
+    let s = scanned file in
+    let p : Placed file s = placed file s (length file + 1) refl in
+    let word-small : (at : ℕ) → word file at < 65536 = λ at. omega (arith, word-is file at, octet at, octet (at + 1)) in
+    provided-either (λ (r : FileReading). SmallOutcome (r .outcome)) (leb (length file) 65536) _ _ (omega arith)
+    (λ t.
+    let short : length file ≤ 65536 = leb-true (length file) 65536 t in
+    provided-either (λ (r : FileReading). SmallOutcome (r .outcome)) (eqb (s .status) 1) _ _ (omega (arith, p .inside))
+    (λ _. provided-either (λ (r : FileReading). SmallOutcome (r .outcome)) (roomyFor s (length passages) (length estimates) (length calls)) _ _ (omega arith)
+    (λ _. record {
+      states = p .small;
+      workers = word-small 6;
+      start-in = word-small 8;
+      goal-in = word-small 10;
+      pull-in = word-small 12;
+      excess-in = word-small 14;
+      passages-in = p .few;
+      calls-in = calls-few file s p short;
+    })))

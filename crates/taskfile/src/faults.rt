@@ -9,3 +9,10 @@ pub const SHORT_SLICE: u8 = 27;
 
 // How a scan without fault ends.
 pub const ALL_READ: u8 = 1;
+
+// The numbers of writing's refusals.
+pub const UNCARRIED: u8 = 24;
+
+pub const FILE_TOO_LARGE: u8 = 25;
+
+pub const SHORT_BUFFER: u8 = 26;

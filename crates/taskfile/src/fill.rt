@@ -1,9 +1,11 @@
 // What a scanned file holds, written to the slices that are lent for it.
 ghost use mathlib.Core.Path.{_≡_};
-ghost use Prim.Native.Nat.{_+_, _*_, _≤_};
+ghost use Prim.Native.Nat.{_+_, _*_, _≤_, _<_};
 ghost use lib.ListN.{length};
 ghost use Rattle.laws.specs.Part.{overlaid};
-ghost use Rattle.taskfile.specs.Contents.{contents, roomyFor, filePassages, fileEstimates, fileCalls, passagePlace, rowPlace, callPlace};
+ghost use Rattle.taskfile.specs.Bytes.{numberAt};
+ghost use Rattle.taskfile.specs.Contents.{contents, roomyFor, filePassages, fileEstimates, fileCalls};
+ghost use Rattle.taskfile.specs.Records.{workerWidth, passagePlace, rowPlace, callPlace};
 ghost use Rattle.taskfile.specs.FillLaws.{rowFrom};
 use super::Contents;
 use super::Scan;
@@ -74,6 +76,14 @@ pub fn put_rows(file: &[u8], passages: usize, n: usize, estimates: &mut [u32])
     }
 }
 
+// A call's worker.
+pub fn worker(file: &[u8], at: usize) -> usize
+    requires { ⌜ at + workerWidth ≤ length (now file) ⌝ }
+    ensures { λ r. ⌜ (r ≡ numberAt workerWidth (now (file .entry)) at) × (r < 65536) ⌝ }
+{
+    bytes::byte(file, at)
+}
+
 // The calls, a number each.
 pub fn put_calls(file: &[u8], passages: usize, n: usize, count: usize, calls: &mut [u32])
     requires { ⌜ ((passages ≤ 512) × (n ≤ 64)) × ((callPlace passages n count ≤ length (now file)) × (count ≤ length (now calls))) ⌝ }
@@ -82,6 +92,6 @@ pub fn put_calls(file: &[u8], passages: usize, n: usize, count: usize, calls: &m
     let from = 16 + 12 * passages + n * (6 + 4 * n);
     for i in 0..count {
         let at = from + 6 * i;
-        calls[i] = (65536 * bytes::byte(file, at + 4) + bytes::byte(file, at + 5)) as u32;
+        calls[i] = (65536 * bytes::byte(file, at + 4) + worker(file, at + 5)) as u32;
     }
 }

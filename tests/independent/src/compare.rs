@@ -7,12 +7,15 @@ use crate::desks::{Checked, Desks};
 use crate::maker::{self, Rng};
 use crate::rows::{self, Independent, RowDesk, PHASE, PRINT_ROOM, ROW};
 
+mod files;
 mod maps;
+
+pub use files::unmet;
 
 /// Runs one case; says what differs or goes against demand 3 or an order.
 pub fn run_case(desks: &mut Desks, seed: u64, case: u64) -> Checked<()> {
     let mut rng = Rng::new(seed, case);
-    match rng.below(100) {
+    match rng.below(112) {
         0..=37 => {
             let task = maker::task(&mut rng);
             search(desks, &mut rng, &task)
@@ -22,7 +25,9 @@ pub fn run_case(desks: &mut Desks, seed: u64, case: u64) -> Checked<()> {
         67..=80 => file(desks, &mut rng),
         81..=86 => mornings(desks, &mut rng),
         87..=91 => made_up_mornings(desks, &mut rng),
-        _ => maps::map(desks, &mut rng),
+        92..=99 => maps::map(desks, &mut rng),
+        100..=106 => files::written(desks, &mut rng),
+        _ => files::any_file(desks, &mut rng),
     }
 }
 

@@ -7,12 +7,13 @@
 //! And what document 02 asks on any machine: of a Wait (order 1), checked with own
 //! sums, that it names the state that is waited for; of a morning (order 2) that
 //! it leaves what as many single calls to the same desk leave. What order 3 asks
-//! is in `maps`, what order 5 asks in `opening`.
+//! is in `maps`, what order 5 asks in `opening`, what order 6 asks in `files`.
 
 use crate::desk::{is_blocked, Graph, Machine, Reply, Task, MAX_STATES, NONE, OPEN, OUT};
 use crate::morning::Event;
 use crate::rows::{self, RowDesk, Shown, VIAS};
 
+pub mod files;
 pub mod maps;
 pub mod opening;
 

@@ -1,7 +1,8 @@
 //! Both desks, called alike: every reply, every number handed back, every place
 //! of every lent slice and the printed text are compared. Every Wait is held
-//! against order 1 of document 02, every morning against order 2 and every opening
-//! against order 5; without a library only that is done.
+//! against order 1 of document 02, every morning against order 2, every opening
+//! against order 5 and every file against order 6; without a library only that is
+//! done.
 
 use crate::demand::{self, Morning};
 use crate::desk::{Action, Graph, Reply, Task};
@@ -9,6 +10,10 @@ use crate::map::Cell;
 use crate::rows::{self, Independent, RowDesk, Shown, NO_SPOT, NO_STATE, ROW};
 use crate::tally::Tally;
 use std::fmt::Debug;
+
+pub mod files;
+
+pub use files::slices;
 
 /// Stops a case at its first fault; carries what is wrong.
 pub type Checked<T> = Result<T, String>;

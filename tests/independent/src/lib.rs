@@ -1,11 +1,11 @@
-//! An independent route desk, written from document 01 and orders 1 to 5 of
+//! An independent route desk, written from document 01 and orders 1 to 6 of
 //! document 02 alone, and what compares the proved desk with it.
 //!
 //! - `desk`: the task, the machine, opening, Take, Bring and path reading.
 //! - `triangles`: opening's check 7, with and without order 5.
 //! - `morning`: the events of a list that one call serves.
 //! - `map`: the reader of grid maps and the task that a map comes to.
-//! - `taskfile`: the task file's reader and the text `deskrun` prints.
+//! - `taskfile`: the task file's reader and writer, and the text `deskrun` prints.
 //! - `rows`: the interface by number rows that both desks are called through.
 //! - `library`: the proved desk behind that interface (the only unsafe code).
 //! - `maker`: random tasks, machines, calls, buffers and files, from a seed.
@@ -13,7 +13,7 @@
 //!   what the orders ask of a Wait and of a morning.
 //! - `compare`: one case of the comparison.
 //! - `desks`: both desks, called alike.
-//! - `samples`: the sample maps.
+//! - `samples`: the sample maps and task files.
 //! - `tally`: counts of what the cases met.
 //! - `runs`: the runs of document 01, and the orders' own, for either desk.
 //!
@@ -23,6 +23,7 @@
 //! DESK_LIB_DIR=FOLDER cargo build --release --offline
 //! target/release/compare --cases 100000 --seed 1
 //! target/release/compare --maps ../../samples/maps
+//! target/release/compare --samples ../../samples
 //! target/release/bench
 //! target/release/bench --counts                   exact counts alone, no clock
 //! ```

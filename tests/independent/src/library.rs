@@ -3,6 +3,7 @@
 
 use crate::desk::{Graph, Task};
 use crate::rows::RowDesk;
+use crate::taskfile::Lent;
 
 extern "C" {
     fn desk_open(
@@ -79,6 +80,36 @@ extern "C" {
     fn desk_map_state(text: *const u8, text_len: usize, row: usize, column: usize) -> u32;
 
     fn desk_print(file: *const u8, file_len: usize, out: *mut u8, out_len: usize) -> usize;
+
+    fn desk_file_write(
+        n: usize,
+        k: usize,
+        start: usize,
+        goal: usize,
+        pull: usize,
+        excess: usize,
+        passages: *const u32,
+        passages_len: usize,
+        estimates: *const u32,
+        estimates_len: usize,
+        events: *const u32,
+        events_len: usize,
+        buffer: *mut u8,
+        buffer_len: usize,
+    ) -> u64;
+
+    fn desk_file_read(
+        file: *const u8,
+        file_len: usize,
+        numbers: *mut u32,
+        numbers_len: usize,
+        passages: *mut u32,
+        passages_len: usize,
+        estimates: *mut u32,
+        estimates_len: usize,
+        events: *mut u32,
+        events_len: usize,
+    ) -> u64;
 }
 
 /// The linked library.
@@ -198,5 +229,47 @@ impl RowDesk for Library {
     fn print(&self, file: &[u8], out: &mut [u8]) -> usize {
         // SAFETY: each pointer goes with the length of the slice it comes from.
         unsafe { desk_print(file.as_ptr(), file.len(), out.as_mut_ptr(), out.len()) }
+    }
+
+    fn file_write(&self, task: &Task, events: &[u32], buffer: &mut [u8]) -> u64 {
+        let (head, graph) = (&task.head, task.graph());
+        // SAFETY: each pointer goes with the length of the slice it comes from.
+        unsafe {
+            desk_file_write(
+                head.n,
+                head.k,
+                head.start,
+                head.goal,
+                head.pull,
+                head.excess,
+                graph.passages.as_ptr(),
+                graph.passages.len(),
+                graph.estimates.as_ptr(),
+                graph.estimates.len(),
+                events.as_ptr(),
+                events.len(),
+                buffer.as_mut_ptr(),
+                buffer.len(),
+            )
+        }
+    }
+
+    fn file_read(&self, file: &[u8], lent: Lent) -> u64 {
+        let [numbers, passages, estimates, events] = lent;
+        // SAFETY: each pointer goes with the length of the slice it comes from.
+        unsafe {
+            desk_file_read(
+                file.as_ptr(),
+                file.len(),
+                numbers.as_mut_ptr(),
+                numbers.len(),
+                passages.as_mut_ptr(),
+                passages.len(),
+                estimates.as_mut_ptr(),
+                estimates.len(),
+                events.as_mut_ptr(),
+                events.len(),
+            )
+        }
     }
 }

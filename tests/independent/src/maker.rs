@@ -10,9 +10,11 @@ use crate::taskfile::MAX_FILE;
 
 mod map;
 mod morning;
+mod writing;
 
 pub use map::{lent, map, map_cell, map_state, map_task};
 pub use morning::morning;
+pub use writing::{file_buffer, writing};
 
 /// A small generator of random numbers (splitmix64).
 pub struct Rng(u64);

@@ -1,12 +1,13 @@
 //! The interface that both desks are called through: a machine as a row of 807
-//! numbers, a reply as one number; a map's counts and cells as one number too.
+//! numbers, a reply as one number; a map's counts and cells, and what came of writing
+//! or reading a task file, as one number too.
 //! `Independent` puts the independent desk behind it, so that comparison and bench
 //! treat both desks alike.
 
 use crate::desk::{Action, Graph, Head, Machine, Reply, Task, MAX_STATES, MAX_WORKERS};
 use crate::map::{Cell, Map};
 use crate::morning;
-use crate::taskfile;
+use crate::taskfile::{self, Fault, Lent};
 use std::fmt;
 
 /// Length of a machine row, and where its parts begin.
@@ -40,6 +41,12 @@ pub trait RowDesk {
     /// The state of a map's cell, or `NO_STATE`.
     fn map_state(&self, text: &[u8], row: usize, column: usize) -> u32;
     fn print(&self, file: &[u8], out: &mut [u8]) -> usize;
+    /// Writes a task and events by number as a task file to the front of `buffer`: the
+    /// file's length, or the refusal's number * 2^32.
+    fn file_write(&self, task: &Task, events: &[u32], buffer: &mut [u8]) -> u64;
+    /// Reads a task file into the fronts of lent slices: 0, or the fault's number *
+    /// 2^32 + its offset.
+    fn file_read(&self, file: &[u8], lent: Lent) -> u64;
 
     fn call(&self, action: Action, row: &mut [u32], graph: Graph, worker: usize) -> u64 {
         match action {
@@ -97,6 +104,39 @@ pub fn show_map(number: u64) -> String {
     match map_counts(number) {
         Ok((cells, passages)) => format!("{cells} {passages}"),
         Err(number) => format!("refused {number}"),
+    }
+}
+
+/// The length that writing a file gave, or the refusal's number.
+pub fn written(number: u64) -> Result<usize, u32> {
+    match (number >> 32) as u32 {
+        0 => Ok(number as usize),
+        refusal => Err(refusal),
+    }
+}
+
+/// What writing a file gave, as it is shown in reports.
+pub fn show_written(number: u64) -> String {
+    match written(number) {
+        Ok(length) => format!("{length} bytes"),
+        Err(refusal) => format!("refused {refusal}"),
+    }
+}
+
+/// Nothing where a file was read, or its fault.
+pub fn file_fault(number: u64) -> Option<Fault> {
+    let fault = Fault {
+        number: (number >> 32) as u32,
+        offset: number as u32 as usize,
+    };
+    Some(fault).filter(|_| number != 0)
+}
+
+/// What reading a file gave, as it is shown in reports.
+pub fn show_read(number: u64) -> String {
+    match file_fault(number) {
+        None => "read".into(),
+        Some(Fault { number, offset }) => format!("fault {number} at {offset}"),
     }
 }
 
@@ -271,5 +311,19 @@ impl RowDesk for Independent {
         let text = taskfile::deskrun(file);
         out[..text.len()].copy_from_slice(text.as_bytes());
         text.len()
+    }
+
+    fn file_write(&self, task: &Task, events: &[u32], buffer: &mut [u8]) -> u64 {
+        match taskfile::write(task, events, buffer) {
+            Ok(length) => length as u64,
+            Err(number) => u64::from(number) << 32,
+        }
+    }
+
+    fn file_read(&self, file: &[u8], lent: Lent) -> u64 {
+        match taskfile::read_into(file, lent) {
+            Ok(()) => 0,
+            Err(fault) => u64::from(fault.number) << 32 | fault.offset as u64,
+        }
     }
 }

@@ -4,9 +4,11 @@
 
 use crate::desk::{Action, Head, Reply, Task};
 use crate::maker;
+use crate::morning::Event;
 use crate::rows::{self, RowDesk, Shown, PRINT_ROOM, ROW};
 
 mod blocked;
+mod files;
 mod maps;
 mod morning;
 mod opening;
@@ -51,6 +53,7 @@ pub fn all() -> impl Iterator<Item = &'static Run> {
         maps::RUNS,
         blocked::RUNS,
         opening::RUNS,
+        files::RUNS,
     ]
     .into_iter()
     .flatten()
@@ -247,6 +250,15 @@ fn file_calls(text: &str) -> Vec<(Action, u8)> {
     calls(text)
         .map(|(action, worker)| (action, worker as u8))
         .collect()
+}
+
+/// Calls by number, as a list of events has them.
+fn events(text: &str) -> Vec<u32> {
+    let events = calls(text).map(|(action, worker)| Event {
+        action,
+        worker: worker as u16,
+    });
+    events.map(Event::number).collect()
 }
 
 /// Opens a task and makes the calls: the machine row and the reply codes.

@@ -2,6 +2,7 @@
 //! call's replies, refusals by number, and the first words of printed texts.
 
 use crate::desk::Reply;
+use crate::taskfile::Fault;
 use std::collections::BTreeMap;
 use std::fmt;
 
@@ -53,6 +54,32 @@ impl Tally {
     /// Counts a question about a map's cells that has an answer or none.
     pub fn add_answer(&mut self, call: &'static str, has_answer: bool) {
         self.add(call, if has_answer { "given" } else { "none" }, 0);
+    }
+
+    /// Counts a file that was written, or refused with a number.
+    pub fn add_written(&mut self, refusal: Option<u32>) {
+        match refusal {
+            Some(number) => self.add("file_write", "refused", number),
+            None => self.add("file_write", "written", 0),
+        }
+    }
+
+    /// Counts a clause of 24 that alone applied.
+    pub fn add_clause(&mut self, name: &'static str) {
+        self.add("file_write-24", name, 0);
+    }
+
+    /// Counts a file that was read, or had a fault.
+    pub fn add_read(&mut self, fault: Option<Fault>) {
+        match fault {
+            Some(fault) => self.add("file_read", "fault", fault.number),
+            None => self.add("file_read", "read", 0),
+        }
+    }
+
+    /// Counts a slice that alone was too short for a file.
+    pub fn add_short(&mut self, name: &'static str) {
+        self.add("file_read-27", name, 0);
     }
 
     /// How often a call gave this.

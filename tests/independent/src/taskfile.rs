@@ -1,8 +1,13 @@
-//! The task file: its reader, with the faults 21 to 23, and the text that
-//! `deskrun` prints for a file.
+//! The task file: its reader, with the faults 21 to 23 and 27, its writer, and the
+//! text that `deskrun` prints for a file.
 
 use crate::desk::{Action, Graph, Head, Machine, Reply, Task};
+use crate::morning::Event;
 use std::fmt::Write;
+
+mod writer;
+
+pub use writer::{write, Clause, CLAUSES};
 
 pub const MAX_FILE: usize = 65_536;
 const MAX_FILE_STATES: usize = 64;
@@ -20,6 +25,24 @@ pub struct Call {
     pub action: Action,
     pub worker: u8,
 }
+
+impl Call {
+    /// The event that stands for this call in a list.
+    fn number(self) -> u32 {
+        let event = Event {
+            action: self.action,
+            worker: self.worker.into(),
+        };
+        event.number()
+    }
+}
+
+/// What a file is read into: numbers, passages, estimates and events by number. The
+/// numbers are n, k, start, goal, W, E and the counts of passages and of events.
+pub type Lent<'a> = [&'a mut [u32]; 4];
+
+/// How many numbers are read.
+pub const NUMBERS: usize = 8;
 
 struct Record<'a> {
     kind: u16,
@@ -53,6 +76,40 @@ pub fn read(file: &[u8]) -> Result<(Task, Vec<Call>), Fault> {
         offset += 4 + record.payload.len();
     }
     reader.finish().ok_or(Fault { number: 21, offset })
+}
+
+/// Reads a whole file into the fronts of lent slices; with a fault nothing is
+/// written. Slices too short are 27, after all others; only a slice that can't take
+/// the numbers, which every file has, is so before all else.
+pub fn read_into(file: &[u8], lent: Lent) -> Result<(), Fault> {
+    let too_short = Fault {
+        number: 27,
+        offset: 0,
+    };
+    if lent[0].len() < NUMBERS {
+        return Err(too_short);
+    }
+    let parts = parts(read(file)?);
+    let mut pairs = lent.iter().zip(&parts);
+    if pairs.any(|(places, part)| places.len() < part.len()) {
+        return Err(too_short);
+    }
+    for (places, part) in lent.into_iter().zip(&parts) {
+        places[..part.len()].copy_from_slice(part);
+    }
+    Ok(())
+}
+
+/// What is read of a task and calls, in the order of `Lent`.
+pub fn parts((task, calls): (Task, Vec<Call>)) -> [Vec<u32>; 4] {
+    let counts = [task.passages.len() / 3, calls.len()];
+    let numbers = task.head.numbers().into_iter().chain(counts);
+    [
+        numbers.map(|number| number as u32).collect(),
+        task.passages,
+        task.estimates,
+        calls.into_iter().map(Call::number).collect(),
+    ]
 }
 
 /// The record at the front of `bytes`, if all of it is there.

@@ -2,7 +2,7 @@
 //! checks of demand 3 and of Waits; they need no library. Those of orders 2 and
 //! on stand in modules of their own.
 
-use crate::compare::run_case;
+use crate::compare::{run_case, unmet};
 use crate::demand::{see_wait, shortest, Watch};
 use crate::desk::{
     Action, Graph, Machine, Reply, Task, BLOCKED, FINISHED, FOUND, MAX_COST, MAX_LABEL,
@@ -13,9 +13,10 @@ use crate::maker::{self, Rng};
 use crate::rows::{self, Independent, RowDesk, PRINT_ROOM, ROW};
 use crate::runs::{self, task_a};
 use crate::tally::Tally;
-use crate::taskfile::{self, Fault, MAX_FILE};
+use crate::taskfile::{self, Fault, Lent, MAX_FILE};
 
 mod blocked;
+mod files;
 mod map;
 mod morning;
 mod opening;
@@ -48,6 +49,8 @@ fn runs_of_the_orders_can_fail() {
     let wrongs = [
         Wrong {
             open: |_, reply| reply ^ 1,
+            file_write: |_, number| number ^ 1 << 32,
+            file_read: |_, number| number ^ 1 << 32,
             ..RIGHT
         },
         Wrong {
@@ -639,6 +642,10 @@ struct Wrong {
     map_state: fn(u32) -> u32,
     /// With the text.
     print: fn(&mut [u8], usize) -> usize,
+    /// With the buffer.
+    file_write: fn(&mut [u8], u64) -> u64,
+    /// With the lent slices.
+    file_read: fn(&mut Lent, u64) -> u64,
     /// What it takes a passage's cost for, but in files.
     cost: fn(u32) -> u32,
     /// What it takes a weight for, but in files.
@@ -654,6 +661,8 @@ const RIGHT: Wrong = Wrong {
     map_spot: |spot| spot,
     map_state: |state| state,
     print: |_, length| length,
+    file_write: |_, number| number,
+    file_read: |_, number| number,
     cost: |cost| cost,
     weight: |weight| weight,
 };
@@ -716,6 +725,15 @@ impl RowDesk for Wrong {
         let length = Independent.print(file, out);
         (self.print)(out, length)
     }
+    fn file_write(&self, task: &Task, events: &[u32], buffer: &mut [u8]) -> u64 {
+        let number = Independent.file_write(task, events, buffer);
+        (self.file_write)(buffer, number)
+    }
+    fn file_read(&self, file: &[u8], mut lent: Lent) -> u64 {
+        let [numbers, passages, estimates, events] = &mut lent;
+        let number = Independent.file_read(file, [numbers, passages, estimates, events]);
+        (self.file_read)(&mut lent, number)
+    }
 }
 
 fn count_differences(library: Option<&dyn RowDesk>, cases: u64) -> (usize, Tally) {
@@ -754,9 +772,8 @@ fn comparison_sees_weights_that_are_cut() {
     }
 }
 
-/// The cases meet every reply and every refusal and fault but 12 and 27: the
-/// open state of the smallest label depends on no open one, so 12 is not met on
-/// any machine; the file reader here lends no slices.
+/// The cases meet every reply and every refusal and fault but 12: the open state of
+/// the smallest label depends on no open one, so that is not met on any machine.
 #[test]
 fn cases_meet_everything() {
     let (faults, tally) = count_differences(None, 4000);
@@ -780,6 +797,8 @@ fn cases_meet_everything() {
         ("map_spot", &["given", "none"]),
         ("map_state", &["given", "none"]),
         ("print", &["run", "nothing"]),
+        ("file_write", &["written"]),
+        ("file_read", &["read"]),
     ] {
         words.iter().for_each(|word| met(call, word, &[0]));
     }
@@ -792,7 +811,10 @@ fn cases_meet_everything() {
     met("event", "refused", &[8, 9, 10, 11]);
     met("map", "refused", &[31, 32, 33, 34]);
     met("print", "file", &[21, 22, 23]);
+    met("file_write", "refused", &[24, 25, 26]);
+    met("file_read", "fault", &[21, 22, 23, 27]);
     met("print", "opening", &[1, 2, 3]);
+    assert_eq!(unmet(&tally, 10_000), Vec::<String>::new());
 }
 
 #[test]

@@ -1,8 +1,7 @@
 //! Runs of order 2's sentences, on task A.
 
-use super::{calls, codes, run, shown, task_a, Run, A1_CALLS};
+use super::{codes, events, run, shown, task_a, Run, A1_CALLS};
 use crate::desk::Reply;
-use crate::morning::Event;
 use crate::rows::{self, RowDesk, Shown, PHASE, ROW};
 
 const A1_REPLIES: [Reply; 13] = [
@@ -90,15 +89,6 @@ fn opened_a(desk: &dyn RowDesk) -> Vec<u32> {
     let mut row = vec![1; ROW];
     desk.open(&task_a(), &mut row);
     row
-}
-
-/// Calls by number, as a morning takes them.
-fn events(text: &str) -> Vec<u32> {
-    let events = calls(text).map(|(action, worker)| Event {
-        action,
-        worker: worker as u16,
-    });
-    events.map(Event::number).collect()
 }
 
 /// A morning of task A, lent as many places as are `left`.

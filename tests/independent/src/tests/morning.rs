@@ -67,7 +67,7 @@ fn comparison_sees_wrong_mornings() {
         },
         |row, _, _, reply| {
             if let (7, Some(phase)) = (reply >> 32, row.get_mut(6)) {
-                *phase += 1;
+                *phase ^= 1;
             }
             reply
         },

@@ -1,14 +1,16 @@
 -- `fill::put_calls` fills the slice from its front: before turn i the first i places hold the first i calls.
-use Prim.Native.Nat.{_+_, _*_, _-_, _≤_}
+use Prim.Native.Nat.{_+_, _-_, _≤_}
 use Rattle.laws.specs.Fill.{Filled, filled-zero, filled-front, filled-end}
-use Rattle.taskfile.specs.Contents.{callPlace, fileCalls}
-use Rattle.taskfile.specs.Bytes.{byte}
+use Rattle.taskfile.specs.Contents.{fileCalls}
+use Rattle.taskfile.specs.Records.{workerWidth, eventOf, callPlace}
+use Rattle.taskfile.specs.Bytes.{byte, numberAt}
+use Rattle.taskfile.specs.Laws.{row-width}
 use borrow.Author.Needs.{needs}
 use Rattle.taskfile.proofs.fill.put_calls.Statement.{statement}
 use Rattle.taskfile.proofs.fill.put_calls.Tie as tie
 
 abbrev Inv-loop : tie.InvT-loop
-Inv-loop file passages n count calls₀ from i₀ calls i = (i ≤ count) × Filled (λ i. 65536 * byte file (callPlace passages n i + 4) + byte file (callPlace passages n i + 5)) 0 calls₀ calls i
+Inv-loop file passages n count calls₀ from i₀ calls i = (i ≤ count) × Filled (λ i. eventOf (byte file (callPlace passages n i + 4)) (numberAt workerWidth file (callPlace passages n i + 5))) 0 calls₀ calls i
 
 abbrev μ-loop : tie.MeasureT-loop
 μ-loop file passages n count calls₀ from i₀ calls i = count - i
@@ -49,11 +51,11 @@ byte-requires c κs = search needs
 mul-calls : tie.Need-mul-calls Inv-loop μ-loop
 mul-calls c = search needs
 
-add-byte-2 : tie.Need-add-byte-2 Inv-loop μ-loop
-add-byte-2 c = search needs
+add-worker : tie.Need-add-worker Inv-loop μ-loop
+add-worker c = search needs
 
-byte-requires-2 : tie.Need-byte-requires-2 Inv-loop μ-loop
-byte-requires-2 c κs = search needs
+worker-requires : tie.Need-worker-requires Inv-loop μ-loop
+worker-requires c κs = search needs
 
 add-calls : tie.Need-add-calls Inv-loop μ-loop
 add-calls c = search needs
@@ -76,7 +78,7 @@ loop-less c = search needs
 loop-again : tie.Need-loop-again Inv-loop μ-loop
 loop-again c =
     let l = c .before .before .before .loop in
-    (search needs, filled-front _ _ _ (l .i) (l .inv .1) (search needs) _ (rw (c .before .byte .ensures .0, c .byte2 .ensures .0)))
+    (search needs, filled-front _ _ _ (l .i) (l .inv .1) (search needs) _ (rw (row-width, c .before .byte .ensures .0, c .worker .ensures .0)))
 
 same-length : tie.Need-same-length Inv-loop μ-loop
 same-length c = search needs
@@ -103,8 +105,8 @@ put-calls-spec =
     add-byte
     byte-requires
     mul-calls
-    add-byte-2
-    byte-requires-2
+    add-worker
+    worker-requires
     add-calls
     cast-calls
     mul-calls-2

@@ -8,7 +8,7 @@ use Rattle.taskfile.proofs.fill.put_passages.Statement.{statement}
 use Rattle.taskfile.proofs.fill.put_passages.Tie as tie
 
 abbrev Inv-loop : tie.InvT-loop
-Inv-loop file count passages₀ i₀ passages i = (i ≤ count) × Stacked (passageIn file) 3 passages₀ passages i
+Inv-loop file count passages₀ i₀ passages i = (i ≤ count) × Stacked (passageIn file) 3 0 passages₀ passages i
 
 abbrev μ-loop : tie.MeasureT-loop
 μ-loop file count passages₀ i₀ passages i = count - i
@@ -95,7 +95,7 @@ same-length c = search needs
 
 returns : tie.Need-returns Inv-loop μ-loop
 unfolding filePassages passageIn
-returns c = let l = c .before .loop in stacked-end _ _ _ _ (l .i) _ (l .inv .1) (l .inv .0) (c .loop-test .left)
+returns c = let l = c .before .loop in stacked-end _ _ _ _ _ (l .i) _ (l .inv .1) (l .inv .0) (c .loop-test .left)
 
 pub put-passages-spec : {M : Type 1} → statement M
 put-passages-spec =

@@ -3,12 +3,13 @@ use Prim.Native.Nat.{ℕ, _+_, _*_, _-_, _≤_}
 use native.Mathlib.Omega.{arith}
 use Rattle.taskfile.specs.Contents.{fileEstimates}
 use Rattle.taskfile.specs.FillLaws.{rowIn, Stacked, stacked-end, rows-zero, rows-more, part-inside}
+use Rattle.taskfile.specs.Laws.{row-width}
 use borrow.Author.Needs.{needs}
 use Rattle.taskfile.proofs.fill.put_rows.Statement.{statement}
 use Rattle.taskfile.proofs.fill.put_rows.Tie as tie
 
 abbrev Inv-loop : tie.InvT-loop
-Inv-loop file passages n estimates₀ r₀ estimates r = (r ≤ n) × Stacked (rowIn file passages n) n estimates₀ estimates r
+Inv-loop file passages n estimates₀ r₀ estimates r = (r ≤ n) × Stacked (rowIn file passages n) n 0 estimates₀ estimates r
 
 abbrev μ-loop : tie.MeasureT-loop
 μ-loop file passages n estimates₀ r₀ estimates r = n - r
@@ -56,14 +57,14 @@ loop-again : tie.Need-loop-again Inv-loop μ-loop
 loop-again c =
     let l = c .before .before .before .before .before .loop in
     let n = c .before .before .before .before .before .before .before .before .args .n in
-    (search needs, rows-more _ _ _ _ _ _ (l .r) (l .inv .1) (omega (arith, inside (c .before .before .before .before) n)) (c .before .before .put-row .ensures))
+    (search needs, rows-more _ _ _ _ _ _ (l .r) (l .inv .1) (omega (arith, inside (c .before .before .before .before) n)) (rw row-width (c .before .before .put-row .ensures)))
 
 same-length : tie.Need-same-length Inv-loop μ-loop
 same-length c = search needs
 
 returns : tie.Need-returns Inv-loop μ-loop
 unfolding fileEstimates rowIn
-returns c = let l = c .before .loop in stacked-end _ _ _ _ (l .r) _ (l .inv .1) (l .inv .0) (c .loop-test .left)
+returns c = let l = c .before .loop in stacked-end _ _ _ _ _ (l .r) _ (l .inv .1) (l .inv .0) (c .loop-test .left)
 
 pub put-rows-spec : {M : Type 1} → statement M
 put-rows-spec =

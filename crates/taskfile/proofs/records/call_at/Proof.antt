@@ -2,6 +2,7 @@
 use mathlib.Core.Path.{_∙_, sym}
 use borrow.Author.Tests.{eq-eqb, ne-eqb, le-leb, lt-leb, not-true, not-false}
 use borrow.Author.Needs.{needs}
+use Rattle.taskfile.specs.Records.{callLength}
 use Rattle.taskfile.specs.Scan.{callAt}
 use Rattle.taskfile.proofs.records.call_at.Statement.{statement}
 use Rattle.taskfile.proofs.records.call_at.Tie as tie
@@ -26,7 +27,7 @@ returns-2 : tie.Need-returns-2
 unfolding callAt
 returns-2 c =
     let d = c .before .before in
-    rw (sym (d .before .before .complete .ensures) ∙ not-false _ (d .before .if1 .left), ← (d .word .ensures .0), ne-eqb _ 2 (c .before .if2 .taken)) (c .stopped2 .ensures)
+    rw (sym (d .before .before .complete .ensures) ∙ not-false _ (d .before .if1 .left), ← (d .word .ensures .0), ne-eqb _ callLength (c .before .if2 .taken)) (c .stopped2 .ensures)
 
 add-byte : tie.Need-add-byte
 add-byte c = search needs
@@ -42,7 +43,7 @@ unfolding callAt
 returns-3 c =
     let b = c .before .before in
     let d = b .before .before in
-    rw (sym (d .before .before .complete .ensures) ∙ not-false _ (d .before .if1 .left), ← (d .word .ensures .0), eq-eqb _ 2 (b .before .if2 .left), ← (b .byte .ensures .0), lt-leb _ 1 (c .before .if3 .taken)) (c .stopped3 .ensures)
+    rw (sym (d .before .before .complete .ensures) ∙ not-false _ (d .before .if1 .left), ← (d .word .ensures .0), eq-eqb _ callLength (b .before .if2 .left), ← (b .byte .ensures .0), lt-leb _ 1 (c .before .if3 .taken)) (c .stopped3 .ensures)
 
 add-t6 : tie.Need-add-t6
 add-t6 c = search needs
@@ -55,7 +56,7 @@ unfolding callAt
 returns-4 c =
     let b = c .before .before in
     let d = b .before .before in
-    rw (sym (d .before .before .complete .ensures) ∙ not-false _ (d .before .if1 .left), ← (d .word .ensures .0), eq-eqb _ 2 (b .before .if2 .left), ← (b .byte .ensures .0), le-leb _ 1 (c .before .if3 .left))
+    rw (sym (d .before .before .complete .ensures) ∙ not-false _ (d .before .if1 .left), ← (d .word .ensures .0), eq-eqb _ callLength (b .before .if2 .left), ← (b .byte .ensures .0), le-leb _ 1 (c .before .if3 .left))
 
 pub call-at-spec : {M : Type 1} → statement M
 call-at-spec =

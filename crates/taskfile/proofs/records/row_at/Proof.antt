@@ -2,6 +2,7 @@
 use borrow.Author.Tests.{eq-eqb, ne-eqb, lt-ltb, le-ltb}
 use borrow.Author.Needs.{needs}
 use Rattle.taskfile.specs.Scan.{rowAt}
+use Rattle.taskfile.specs.Laws.{row-width}
 use Rattle.taskfile.proofs.records.row_at.Statement.{statement}
 use Rattle.taskfile.proofs.records.row_at.Tie as tie
 
@@ -63,7 +64,7 @@ unfolding rowAt
 returns-4 c =
     let d = c .before .before .before .before in
     let e = d .before .before .before in
-    rw (lt-ltb _ _ (e .before .if1 .left), ← (e .word .ensures .0), eq-eqb _ _ (d .before .if2 .left), ← (d .word2 .ensures .0), eq-eqb _ _ (c .before .before .if3 .left))
+    rw (lt-ltb _ _ (e .before .if1 .left), ← (e .word .ensures .0), eq-eqb _ _ (d .before .if2 .left), ← (d .word2 .ensures .0), eq-eqb _ _ (c .before .before .if3 .left), row-width)
 
 pub row-at-spec : {M : Type 1} → statement M
 row-at-spec =

@@ -2,10 +2,14 @@
 //! library against the independent desk.
 
 use crate::inputs::{
-    ended_file, faulty_file, map_task, map_text, opened_row, searching_file, spread_row,
+    ended_file, faulty_file, map_task, map_text, opened_row, searching_call, searching_file,
+    searching_task, spread_row,
 };
 use crate::timing::{black_box, on_copy, Go};
+use independent::demand::files::lengths;
 use independent::desk::{Graph, NONE, OUT};
+use independent::desks::files::slices;
+use independent::maker::file_of;
 use independent::rows::{Independent, RowDesk, HELD, MARKS, PHASE, PRINT_ROOM, ROW};
 use std::cell::RefCell;
 use std::rc::Rc;
@@ -106,6 +110,14 @@ pub const WORKLOADS: &[Workload] = &[
         set_up: || print(ended_file()),
     },
     Workload {
+        name: "read file of 65536 into slices",
+        set_up: read_file,
+    },
+    Workload {
+        name: "write file of 65536",
+        set_up: write_file,
+    },
+    Workload {
         name: "map of 16 x 16, all open",
         set_up: || map(16, 16),
     },
@@ -167,6 +179,28 @@ fn whole_run(n: usize, passages: usize, k: usize) -> Go {
 fn print(file: Vec<u8>) -> Go {
     let out = RefCell::new(vec![0; PRINT_ROOM]);
     Rc::new(move |desk| desk.print(black_box(&file), &mut out.borrow_mut()) as u64)
+}
+
+/// A full file, read into slices that are just long enough.
+fn read_file() -> Go {
+    let file = searching_file();
+    let lent = RefCell::new(
+        lengths(&file)
+            .unwrap_or([8, 0, 0, 0])
+            .map(|length| vec![0; length]),
+    );
+    Rc::new(move |desk| desk.file_read(black_box(&file), slices(&mut lent.borrow_mut())))
+}
+
+/// The same file, written again.
+fn write_file() -> Go {
+    let task = searching_task();
+    let bare = file_of(&task, &[]).len();
+    let events: Vec<u32> = (0..(65_536 - bare) / 6)
+        .map(|number| u32::from(searching_call(number).1))
+        .collect();
+    let buffer = RefCell::new(vec![0; 65_536]);
+    Rc::new(move |desk| desk.file_write(black_box(&task), &events, &mut buffer.borrow_mut()))
 }
 
 /// A map with an open room of 16 x 16, read.
