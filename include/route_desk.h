@@ -15,8 +15,9 @@
  * given: with one cost changed in between nothing refuses, and the path found need no longer be within E of the best.
  *
  * Replies. Every call on a machine returns its reply's case times 2^32, plus the number that the reply carries: read
- * them with DESK_CASE and DESK_VALUE. Whatever numbers a row and the slices hold, the reply is a defined one. No number
- * of a parameter is cut: what is out of range is refused, however large it is (W 65636 with 3).
+ * them with DESK_CASE and DESK_VALUE. desk_take_limited adds the comparisons that it made, times 2^40: read them with
+ * DESK_COMPARISONS. Whatever numbers a row and the slices hold, the reply is a defined one. No number of a parameter is
+ * cut: what is out of range is refused, however large it is (W 65636 with 3).
  *
  * Refusals, each call's in this order:
  *
@@ -72,7 +73,7 @@ extern "C" {
 #define DESK_BLOCKED 4294967295u /* the cost of a blocked passage */
 
 #define DESK_STACK_OPEN 16384
-#define DESK_STACK_TAKE 24576
+#define DESK_STACK_TAKE 24576 /* desk_take, desk_take_limited */
 #define DESK_STACK_BRING 24576
 #define DESK_STACK_MORNING 32768
 #define DESK_STACK_PATH 16384
@@ -90,11 +91,13 @@ enum {
     DESK_WAIT = 5,    /* the state waited for */
     DESK_READ = 6,    /* how many states the path has */
     DESK_REFUSED = 7, /* the refusal's number, 1 to 18 */
-    DESK_DONE = 8     /* a morning's events were served */
+    DESK_DONE = 8,    /* a morning's events were served */
+    DESK_CUT = 9      /* the limit at which a limited Take was cut short */
 };
 
-#define DESK_CASE(reply) ((unsigned)((reply) >> 32))
+#define DESK_CASE(reply) ((unsigned)((reply) >> 32) & 255u)
 #define DESK_VALUE(reply) ((uint32_t)(reply))
+#define DESK_COMPARISONS(reply) ((uint32_t)((reply) >> 40)) /* 0 where another call replied */
 
 /* Opens a task: the machine's row is written whole. Opened, or refused with 8 (the row's length), then 1 to 7. */
 uint64_t desk_open(size_t n, size_t k, size_t start, size_t goal, size_t w, size_t e,
@@ -106,6 +109,18 @@ uint64_t desk_open(size_t n, size_t k, size_t start, size_t goal, size_t w, size
 uint64_t desk_take(uint32_t *machine, size_t machine_len,
                    const uint32_t *passages, size_t passages_len,
                    const uint32_t *estimates, size_t estimates_len, size_t worker);
+
+/* A worker asks for a state, which is chosen with fewer comparisons: an open state is compared only with states that
+ * are out or have a smaller key (100 * label + W * h to the goal). Took, Found, NoPath, Wait, Cut, or refused with 8 to
+ * 11. DESK_COMPARISONS says how many comparisons were made; 0 where it was refused. Where more than `limit` would be,
+ * the reply is Cut with the limit, so many were made, and the row is as it was. No machine takes more than
+ * DESK_MOST_COMPARISONS: a limit that large, or larger, never cuts.
+ * On a task that desk_open accepted, and a row that desk_open and calls with the same slices led to, every reply but
+ * Cut is desk_take's, and so is the row. */
+#define DESK_MOST_COMPARISONS 65280
+uint64_t desk_take_limited(uint32_t *machine, size_t machine_len,
+                           const uint32_t *passages, size_t passages_len,
+                           const uint32_t *estimates, size_t estimates_len, size_t worker, size_t limit);
 
 /* A worker brings back what its state's passages lead to: Brought, or refused with 8 to 11. */
 uint64_t desk_bring(uint32_t *machine, size_t machine_len,

@@ -1,6 +1,6 @@
-/* The route desk called from C and C++: run A1 of the scope document, made singly, as a morning and from a task file,
- * with its path; the refusals that numbers, lengths and pointers of a caller lead to; and that a refused call writes
- * nothing.
+/* The route desk called from C and C++: run A1 of the scope document, made singly, as a morning, by limited Takes and
+ * from a task file, with its path; the refusals that numbers, lengths and pointers of a caller lead to; and that a
+ * refused call writes nothing.
  * Prints how many checks passed, or the first that did not. */
 #include <stdio.h>
 #include <stdlib.h>
@@ -37,6 +37,10 @@ static uint64_t open_a(size_t n, size_t goal, size_t w, size_t e, uint32_t *row,
 
 static uint64_t take_a(uint32_t *row, size_t row_len, size_t worker) {
     return desk_take(row, row_len, passages, 18, estimates, 25, worker);
+}
+
+static uint64_t take_limited_a(uint32_t *row, size_t row_len, size_t worker, size_t limit) {
+    return desk_take_limited(row, row_len, passages, 18, estimates, 25, worker, limit);
 }
 
 static uint64_t bring_a(uint32_t *row, size_t row_len, size_t worker) {
@@ -107,6 +111,41 @@ static void run_as_a_morning(const uint32_t *singly) {
         CHECK(is(replies[i], run_a1[i].kind, run_a1[i].value));
     }
     CHECK(replies[CALLS] == 77);
+    CHECK(memcmp(row, singly, sizeof row) == 0);
+}
+
+/* The comparisons that each Take of the run makes when it is a limited one: the goal is tried first once it is open. */
+static const uint32_t comparisons[CALLS] = {0, 0, 0, 0, 1, 0, 1, 1, 0, 1, 1, 0, 0};
+
+/* As many comparisons as a Take makes are enough; with one fewer it is cut short, and the row stays as it was. */
+static void run_limited(const uint32_t *singly) {
+    uint32_t row[DESK_ROW], before[DESK_ROW];
+    CHECK(is(open_a(5, 4, 100, 100, row, DESK_ROW), DESK_OPENED, 0));
+    for (int i = 0; i < CALLS; i++) {
+        uint64_t reply;
+        if (run_a1[i].is_bring) {
+            reply = bring_a(row, DESK_ROW, run_a1[i].worker);
+        } else {
+            memcpy(before, row, sizeof row);
+            if (comparisons[i] > 0) {
+                reply = take_limited_a(row, DESK_ROW, run_a1[i].worker, comparisons[i] - 1);
+                CHECK(is(reply, DESK_CUT, comparisons[i] - 1) && DESK_COMPARISONS(reply) == comparisons[i] - 1);
+                CHECK(memcmp(row, before, sizeof row) == 0);
+            }
+            reply = take_limited_a(row, DESK_ROW, run_a1[i].worker, comparisons[i]);
+        }
+        CHECK(is(reply, run_a1[i].kind, run_a1[i].value) && DESK_COMPARISONS(reply) == comparisons[i]);
+    }
+    CHECK(memcmp(row, singly, sizeof row) == 0);
+    CHECK(take_limited_a(row, DESK_ROW, 0, 0) == take_a(row, DESK_ROW, 0));
+    CHECK(refused(take_limited_a(row, DESK_ROW, 0, DESK_MOST_COMPARISONS), 10));
+    CHECK(refused(take_limited_a(row, DESK_ROW - 1, 0, DESK_MOST_COMPARISONS), 8));
+    for (int i = 0; i < WIDE; i++) {
+        CHECK(refused(take_limited_a(row, DESK_ROW, wide[i], wide[i]), 9));
+        CHECK(is(open_a(5, 4, 100, 100, before, DESK_ROW), DESK_OPENED, 0));
+        CHECK(is(take_limited_a(before, DESK_ROW, 0, wide[i]), DESK_TOOK, 0));
+        CHECK(take_limited_a(before, DESK_ROW, 0, wide[i]) == take_a(before, DESK_ROW, 0));
+    }
     CHECK(memcmp(row, singly, sizeof row) == 0);
 }
 
@@ -553,6 +592,7 @@ int main(void) {
     uint32_t row[DESK_ROW];
     run_singly(row);
     run_as_a_morning(row);
+    run_limited(row);
     read_paths(row);
     refuse_openings();
     refuse_lengths();

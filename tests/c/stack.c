@@ -40,6 +40,7 @@ struct stack {
 
 static struct stack opening = {"desk_open", DESK_STACK_OPEN, NULL};
 static struct stack taking = {"desk_take", DESK_STACK_TAKE, NULL};
+static struct stack limiting = {"desk_take_limited", DESK_STACK_TAKE, NULL};
 static struct stack bringing = {"desk_bring", DESK_STACK_BRING, NULL};
 static struct stack serving = {"desk_morning", DESK_STACK_MORNING, NULL};
 static struct stack reading = {"desk_path", DESK_STACK_PATH, NULL};
@@ -49,8 +50,8 @@ static struct stack naming = {"desk_map_state", DESK_STACK_MAP, NULL};
 static struct stack printing = {"desk_print", DESK_STACK_PRINT, NULL};
 static struct stack unpacking = {"desk_file_read", DESK_STACK_FILE, NULL};
 static struct stack packing = {"desk_file_write", DESK_STACK_FILE, NULL};
-static struct stack *const stacks[] = {&opening, &taking,  &bringing, &serving,   &reading, &drawing,
-                                       &placing, &naming,  &printing, &unpacking, &packing};
+static struct stack *const stacks[] = {&opening, &taking,  &limiting, &bringing, &serving,   &reading,
+                                       &drawing, &placing, &naming,   &printing, &unpacking, &packing};
 enum { STACKS = sizeof stacks / sizeof stacks[0] };
 
 static void prepare(struct stack *stack) {
@@ -135,6 +136,11 @@ static void take(void) {
     lent->reply = desk_take(lent->machine, DESK_ROW, passages, 3 * PASSAGES, estimates, STATES * STATES, worker);
 }
 
+static void take_limited(void) {
+    lent->reply = desk_take_limited(lent->machine, DESK_ROW, passages, 3 * PASSAGES, estimates, STATES * STATES, worker,
+                                    DESK_MOST_COMPARISONS);
+}
+
 static void bring(void) {
     lent->reply = desk_bring(lent->machine, DESK_ROW, passages, 3 * PASSAGES, estimates, STATES * STATES, worker);
 }
@@ -156,7 +162,8 @@ static void expect(uint64_t reply, unsigned kind, uint32_t value) {
     }
 }
 
-/* In each round one worker takes the next state of the chain, another waits for it, and the first brings. */
+/* In each round one worker takes the next state of the chain, another waits for it, by either Take, and the first
+ * brings. */
 static void search(void) {
     on(&opening, open_task);
     expect(lent->reply, DESK_OPENED, 0);
@@ -166,6 +173,8 @@ static void search(void) {
         expect(lent->reply, DESK_TOOK, s);
         worker = (s + 1) % WORKERS;
         on(&taking, take);
+        expect(lent->reply, DESK_WAIT, s);
+        on(&limiting, take_limited);
         expect(lent->reply, DESK_WAIT, s);
         worker = s % WORKERS;
         on(&bringing, bring);

@@ -1,5 +1,5 @@
 -- "Take(worker), first that holds": which of the five steps it is, with the number that the step names.
-use mathlib.Core.Bool.{_&&_, not, cond}
+use mathlib.Core.Bool.{Bool, _&&_, not, cond}
 use Prim.Native.Nat.{ℕ}
 use lib.Dec.{ltb}
 use Rattle.rule.specs.Marks.{out}
@@ -11,15 +11,19 @@ use Rattle.dealing.specs.Board.{Board, labelAt, firstDependence, safe, c
 unfoldable pub waitedFor : ℕ → ℕ → Board → ℕ
 waitedFor goal pull b = cond (anyOpen b) (firstDependence b (foremost goal pull b)) (firstMarked (b .mark) (b .n) out)
 
+-- the five steps, given whether the goal is open and safe, the safe state to deal, or n, and the state that Wait carries
 -- 1 "the goal is open and safe: Found with its label"
 -- 2 "nothing is open or out: NoPath"
 -- 3 "some open state is safe: Took the one with the smallest key, the lowest number among equals"
 -- 4 "nothing is out: refusal 12"
 -- 5 "otherwise Wait", which carries a state
-unfoldable pub decision : ℕ → ℕ → Board → Decision
-decision goal pull b =
-    cond (safe b goal) (Found (labelAt b goal))
+abbrev pub steps : Board → ℕ → Bool → ℕ → ℕ → Decision
+steps b goal goalSafe chosen waited =
+    cond goalSafe (Found (labelAt b goal))
     (cond (not (anyOpen b) && not (anyOut b)) NoPath
-    (cond (ltb (choice goal pull b) (b .n)) (Deal (choice goal pull b))
+    (cond (ltb chosen (b .n)) (Deal chosen)
     (cond (not (anyOut b)) Stuck
-    (Wait (waitedFor goal pull b)))))
+    (Wait waited))))
+
+unfoldable pub decision : ℕ → ℕ → Board → Decision
+decision goal pull b = steps b goal (safe b goal) (choice goal pull b) (waitedFor goal pull b)

@@ -2,16 +2,17 @@
 use mathlib.Core.Path.{_≡_, refl, sym, _∙_}
 use mathlib.Core.Bool.{Bool, true, false, cond, _&&_, not, true≢false}
 use mathlib.Core.Logic.{_⊎_, ⊎-elim}
-use Prim.Native.Nat.{ℕ, _+_, _≤_, _<_}
+use Prim.Native.Nat.{ℕ, _+_, _*_, _≤_, _<_}
 use native.Mathlib.Nat.{eq-or-lt-of-le}
 use native.Mathlib.Omega.{arith}
-use borrow.Author.Tests.{eq-eqb, ne-eqb, eqb-true, ltb-true, ltb-false, lt-ltb, le-ltb, not-false}
+use borrow.Author.Tests.{eq-eqb, ne-eqb, eqb-true, eqb-false, ltb-true, ltb-false, leb-false, lt-ltb, le-ltb, not-true, not-false}
 use lib.Dec.{ltb, eqb}
-use Rattle.laws.specs.Truth.{and-false}
+use Rattle.laws.specs.Truth.{and-left, and-right, and-false}
 use Rattle.laws.specs.First.{first, first-found, first-at, first-end, first-le, any-not, any-of}
 use Rattle.laws.specs.Least.{Best, best-zero, best-skip, best-lost, best-won, best-end, least-passes, least-below, least-nothing}
 use Rattle.rule.specs.Marks.{waiting, out, isOpen, isLive}
-use Rattle.rule.specs.Rule.{holdsBack, keyOf}
+use Rattle.rule.specs.Rule.{independent, holdsBack, keyOf}
+use Rattle.rule.specs.Laws.{independent-is}
 use Rattle.dealing.specs.declared.Choice.{Choice}
 use Rattle.dealing.specs.declared.Choice.the-variants.{Safe, Stopped, NoneOpen}
 use Rattle.dealing.specs.declared.Decision.the-variants.{Found, NoPath, Deal, Stuck, Wait}
@@ -39,6 +40,22 @@ module _ (b : Board) (s t : ℕ) where
       → r ≡ holdsBack (markAt b t) (labelAt b s) (labelAt b t) (b .excess) g → dependsOn b s t ≡ r
   unfolding dependsOn
   depends-other g r n e d = rw (ne-eqb t s n) (sym (rw e at d))
+
+  -- what dependence on t says: t is another state, live, and its label with E × h(t,s) stays behind that of s
+  module _ (e : dependsOn b s t ≡ true) where
+    pub depends-apart : t ≡ s → ⊥
+    unfolding dependsOn
+    depends-apart = eqb-false t s (not-true (eqb t s) (and-left _ _ e))
+
+    pub depends-live : isLive (markAt b t) ≡ true
+    unfolding dependsOn holdsBack
+    depends-live = and-left _ _ (and-right (not (eqb t s)) _ e)
+
+    pub depends-behind : 100 * labelAt b t + b .excess * h b t s < 100 * labelAt b s
+    unfolding dependsOn holdsBack
+    depends-behind =
+        let n = not-true (independent (labelAt b s) (labelAt b t) (b .excess) (h b t s)) (and-right (isLive (markAt b t)) _ (and-right (not (eqb t s)) _ e)) in
+        leb-false (100 * labelAt b s) (100 * labelAt b t + b .excess * h b t s) (rw (independent-is (labelAt b s) (labelAt b t) (b .excess) (h b t s)) at n)
 
 -- when s is safe
 module _ (b : Board) (s : ℕ) where
@@ -98,21 +115,24 @@ module _ (goal pull : ℕ) (b : Board) where
   unfolding choice
   choice-none = least-nothing (safe b) (key goal pull b) (b .n) (b .n) (omega arith)
 
-  foremost-in : (foremost goal pull b ≡ b .n → ⊥) → foremost goal pull b < b .n
+  pub foremost-in : (foremost goal pull b ≡ b .n → ⊥) → foremost goal pull b < b .n
   unfolding foremost
   foremost-in = least-below _ (key goal pull b) (b .n) (b .n) (omega arith)
 
-  foremost-open : (foremost goal pull b ≡ b .n → ⊥) → markAt b (foremost goal pull b) ≡ waiting
+  pub foremost-open : (foremost goal pull b ≡ b .n → ⊥) → markAt b (foremost goal pull b) ≡ waiting
   unfolding foremost
   foremost-open z = eqb-true (markAt b (foremost goal pull b)) waiting (least-passes _ (key goal pull b) (b .n) (b .n) z)
 
-  foremost-some : (foremost goal pull b ≡ b .n → ⊥) → anyOpen b ≡ true
+  pub foremost-some : (foremost goal pull b ≡ b .n → ⊥) → anyOpen b ≡ true
   unfolding anyOpen
   foremost-some z = any-of _ (b .n) (foremost goal pull b) (foremost-in z) (eq-eqb _ waiting (foremost-open z))
 
-  foremost-none : b .n ≤ foremost goal pull b → anyOpen b ≡ false
+  pub foremost-none : b .n ≤ foremost goal pull b → anyOpen b ≡ false
   unfolding anyOpen foremost
   foremost-none l = any-not _ (b .n) (least-nothing _ (key goal pull b) (b .n) (b .n) (omega arith) l)
+
+  pub foremost-any : anyOpen b ≡ true → foremost goal pull b ≡ b .n → ⊥
+  foremost-any o q = true≢false (sym o ∙ foremost-none (omega arith))
 
   -- where nothing is safe, its test stops at a state
   pub foremost-held : (foremost goal pull b ≡ b .n → ⊥) → ((s : ℕ) → s < b .n → safe b s ≡ false) → firstDependence b (foremost goal pull b) < b .n
@@ -216,7 +236,15 @@ none-by true any c f e = let z : _≡_ {A = ℕ} 0 1 = cc in absurd (omega arith
 none-by false true c f e = let z : _≡_ {A = ℕ} 0 1 = cc in absurd (omega arith)
 none-by false false c f e = (refl, refl)
 
-deal-by : (found none some quiet : Bool) (label c w s : ℕ)
+pub found-by : (found none some quiet : Bool) (label c w cost : ℕ)
+    → cond found (Found label) (cond none NoPath (cond some (Deal c) (cond quiet Stuck (Wait w)))) ≡ Found cost → cost ≡ label
+found-by true none some quiet label c w cost e = cc
+found-by false true some quiet label c w cost e = let z : _≡_ {A = ℕ} 0 1 = cc in absurd (omega arith)
+found-by false false true quiet label c w cost e = let z : _≡_ {A = ℕ} 0 1 = cc in absurd (omega arith)
+found-by false false false true label c w cost e = let z : _≡_ {A = ℕ} 0 1 = cc in absurd (omega arith)
+found-by false false false false label c w cost e = let z : _≡_ {A = ℕ} 0 1 = cc in absurd (omega arith)
+
+pub deal-by : (found none some quiet : Bool) (label c w s : ℕ)
     → cond found (Found label) (cond none NoPath (cond some (Deal c) (cond quiet Stuck (Wait w)))) ≡ Deal s → (some ≡ true) × (c ≡ s)
 deal-by true none some quiet label c w s e = let z : _≡_ {A = ℕ} 0 1 = cc in absurd (omega arith)
 deal-by false true some quiet label c w s e = let z : _≡_ {A = ℕ} 0 1 = cc in absurd (omega arith)
@@ -224,13 +252,21 @@ deal-by false false true quiet label c w s e = (refl, cc)
 deal-by false false false true label c w s e = let z : _≡_ {A = ℕ} 0 1 = cc in absurd (omega arith)
 deal-by false false false false label c w s e = let z : _≡_ {A = ℕ} 0 1 = cc in absurd (omega arith)
 
-wait-by : (found none some quiet : Bool) (label c w t : ℕ)
-    → cond found (Found label) (cond none NoPath (cond some (Deal c) (cond quiet Stuck (Wait w)))) ≡ Wait t → (some ≡ false) × (quiet ≡ false) × (t ≡ w)
+pub wait-by : (found none some quiet : Bool) (label c w t : ℕ)
+    → cond found (Found label) (cond none NoPath (cond some (Deal c) (cond quiet Stuck (Wait w)))) ≡ Wait t → (some ≡ false) × (quiet ≡ false) × (t ≡ w) × (found ≡ false)
 wait-by true none some quiet label c w t e = let z : _≡_ {A = ℕ} 0 1 = cc in absurd (omega arith)
 wait-by false true some quiet label c w t e = let z : _≡_ {A = ℕ} 0 1 = cc in absurd (omega arith)
 wait-by false false true quiet label c w t e = let z : _≡_ {A = ℕ} 0 1 = cc in absurd (omega arith)
 wait-by false false false true label c w t e = let z : _≡_ {A = ℕ} 0 1 = cc in absurd (omega arith)
-wait-by false false false false label c w t e = (refl, refl, cc)
+wait-by false false false false label c w t e = (refl, refl, cc, refl)
+
+pub stuck-by : (found none some quiet : Bool) (label c w : ℕ)
+    → cond found (Found label) (cond none NoPath (cond some (Deal c) (cond quiet Stuck (Wait w)))) ≡ Stuck → (some ≡ false) × (quiet ≡ true) × (none ≡ false) × (found ≡ false)
+stuck-by true none some quiet label c w e = let z : _≡_ {A = ℕ} 0 1 = cc in absurd (omega arith)
+stuck-by false true some quiet label c w e = let z : _≡_ {A = ℕ} 0 1 = cc in absurd (omega arith)
+stuck-by false false true quiet label c w e = let z : _≡_ {A = ℕ} 0 1 = cc in absurd (omega arith)
+stuck-by false false false true label c w e = (refl, refl, refl, refl)
+stuck-by false false false false label c w e = let z : _≡_ {A = ℕ} 0 1 = cc in absurd (omega arith)
 
 module _ (goal pull : ℕ) (b : Board) where
   -- the ladder of a decision, one law for each step
@@ -280,5 +316,5 @@ module _ (goal pull : ℕ) (b : Board) where
   wait-in t e = rw (wait-says t e .2) (go (anyOpen b) refl)
     where
       go : (o : Bool) → anyOpen b ≡ o → cond o (firstDependence b (foremost goal pull b)) (firstMarked (b .mark) (b .n) out) < b .n
-      go true o = foremost-held goal pull b (λ q. true≢false (sym o ∙ foremost-none goal pull b (omega arith))) (wait-says t e .1)
+      go true o = foremost-held goal pull b (foremost-any goal pull b o) (wait-says t e .1)
       go false o = ltb-true (firstMarked (b .mark) (b .n) out) (b .n) (sym (out-by b _ refl) ∙ wait-says t e .0)

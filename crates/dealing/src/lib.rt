@@ -1,11 +1,15 @@
 // The safety test, the choice, and which of its five steps a Take comes to. All of it reads the board, each state's
-// mark and label with the table of estimates, and changes nothing.
+// mark and label with the table of estimates, and changes nothing. What a limited Take comes to stands in `limits`.
 ghost use mathlib.Core.Path.{_≡_};
 ghost use Prim.Native.Nat.{_≤_, _<_};
 ghost use Rattle.rule.specs.Laws.{WholeTable};
 ghost use Rattle.dealing.specs.Board.{board, firstDependence, firstMarked};
 ghost use Rattle.dealing.specs.Decision.{decision};
 ghost use Rattle.dealing.specs.Laws.{choose};
+
+mod limits;
+
+pub use limits::decide_limited;
 
 // The five steps of Take, in their order, with what each names.
 pub enum Decision {
@@ -22,6 +26,12 @@ pub enum Choice {
     Safe(usize),
     Stopped(usize),
     NoneOpen,
+}
+
+// What a limited Take comes to: cut short; or one of the steps, and how many comparisons it took.
+pub enum Limited {
+    Cut,
+    Decided(Decision, usize),
 }
 
 // The first state that s depends on, or n where it depends on none.

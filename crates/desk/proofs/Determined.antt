@@ -17,6 +17,16 @@ take-checked κs a x y p q i = (same p q i, x .1)
 pub take : Answers f.Machine.take.ended f.Machine.take.Reads.Asked f.Machine.take.Reads.Learnt
 take = (λ κs a. tt, λ κs a x y p q i. (same p q i, x .1))
 
+-- limited.rt
+pub limited-refused : Answers f.limited.refused.ended f.limited.refused.Reads.Asked f.limited.refused.Reads.Learnt
+limited-refused = (λ κs a. tt, λ κs a x y p q i. (same p q i, x .1))
+
+pub act : Fixes f.Machine.act.ended f.Machine.act.Reads.Learnt
+act κs a x y p q i = (same p q i, x .1)
+
+pub take-limited : Answers f.Machine.take_limited.ended f.Machine.take_limited.Reads.Asked f.Machine.take_limited.Reads.Learnt
+take-limited = (λ κs a. tt, λ κs a x y p q i. (same p q i, x .1))
+
 -- bring.rt
 pub bring-checked : Fixes f.Machine.bring_checked.ended f.Machine.bring_checked.Reads.Learnt
 bring-checked κs a x y p q i = (same p q i, x .1)

@@ -4,7 +4,6 @@ use mathlib.Core.Bool.{Bool, true, false, cond}
 use mathlib.Core.List.{List, [], _∷_, _++_, map}
 use Prim.Native.Nat.{ℕ, _+_, _*_, _/_, _%_, _≤_, _<_}
 use native.Mathlib.Omega.{arith}
-use native.Mathlib.Decide.{ℕ-discrete}
 use native.Mathlib.Numerals.{add-one}
 use lib.ListN.{length, getD, set, take as front, length-map, length-set}
 use lib.Seq.{take-suc, take-all, length-take-le}
@@ -21,7 +20,7 @@ use Rattle.dealing.specs.declared.Decision.the-variants.{Found as FoundAt, NoPa
 use Rattle.dealing.specs.Decision.{decision}
 use Rattle.desk.specs.declared.Machine.{Machine}
 use Rattle.desk.specs.declared.Reply.{Reply}
-use Rattle.desk.specs.declared.Reply.the-variants.{Opened, Took, Brought, Found, NoPath, Wait, Read, Refused, Done}
+use Rattle.desk.specs.declared.Reply.the-variants.{Opened, Took, Brought, Found, NoPath, Wait, Read, Refused, Done, Cut}
 use Rattle.desk.specs.declared.Answer.{Answer}
 use Rattle.desk.specs.Machine.{handsOf, heldBy, taskOf, boardOf}
 use Rattle.desk.specs.Fits.{taskFits}
@@ -30,7 +29,7 @@ use Rattle.desk.specs.Bring.{bringStep, bringOf}
 use Rattle.desk.specs.Laws.{admitted-either, sweep-leaves}
 use Rattle.desk.specs.Reply.{answer, refused, valueOf, codeOf, replyWith, replyOf}
 use Rattle.desk.specs.Calls.{Event, take, bring, workerOf, call, answers, replies, lastOf, after}
-use Rattle.desk.specs.Morning.{eventOf, eventsOf, eventsRight, morningFault, Morning, morningOf}
+use Rattle.desk.specs.Morning.{eventOf, eventsOf, eventsRight, morningFault, morningOf}
 
 -- the worker of an event's number
 pub event-worker : (number : ℕ) → workerOf (eventOf number) ≡ number % 65536
@@ -104,10 +103,6 @@ module _ (passages estimates : List ℕ) where
 -- the first so many events of a list of numbers
 abbrev pub firsts : List ℕ → ℕ → List Event
 firsts events i = eventsOf (front i events)
-
-pub firsts-zero : (events : List ℕ) → firsts events 0 ≡ []
-unfolding eventsOf
-firsts-zero events = refl
 
 pub firsts-more : (events : List ℕ) (i : ℕ) → i < length events → firsts events (i + 1) ≡ firsts events i ++ (eventOf (getD events i 0) ∷ [])
 unfolding eventsOf
@@ -189,3 +184,4 @@ code-back (Wait s) l = code-parts 5 s l
 code-back (Read many) l = code-parts 6 many l
 code-back (Refused number) l = code-parts 7 number l
 code-back Done l = code-parts 8 0 l
+code-back (Cut limit) l = code-parts 9 limit l

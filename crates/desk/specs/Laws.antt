@@ -8,7 +8,7 @@ use lib.ListN.{length, getD, drop}
 use lib.Dec.{ltb, leb, eqb}
 use borrow.Author.Tests.{eqb-true, eqb-false, ltb-true, leb-true, not-true, eq-eqb, ne-eqb, lt-ltb, le-leb, lt-leb}
 use borrow.Rule.Slice.PartMut.{midOf, putMid}
-use Rattle.laws.specs.Truth.{and-left, and-right, cond-either, provided, provided-either, provided-kept}
+use Rattle.laws.specs.Truth.{and-left, and-right, cond-either, provided, provided-either, provided-both, provided-kept}
 use Rattle.laws.specs.Fold.{fold, fold-zero, fold-more, fold-keeps}
 use Rattle.laws.specs.Part.{overlaid, put-overlaid}
 use Rattle.rule.specs.Task.{passageCount, near, far, cost, isClear}
@@ -132,16 +132,22 @@ module _ (m : Machine) (held passages estimates : List ℕ) (worker : ℕ) (soun
       go true true false n = refl
       go true true true n = absurd (n refl)
 
--- what holds of each refusal, and of a call that goes on, holds of whatever is answered
+-- what holds of each refusal in place of two calls, and of the two where they go on, holds of whatever they are answered
+pub admitted-both : (m : Machine) (held passages estimates : List ℕ) (P : Answer → Answer → Type 0) (worker : ℕ) (ready : Bool) (call other : Answer)
+    → ((number : ℕ) → number ≤ 11 → P (refused m number) (refused m number)) → (Admitted m held passages estimates worker → ready ≡ true → P call other)
+    → P (admitted m held passages estimates worker ready call) (admitted m held passages estimates worker ready other)
+unfolding admitted
+admitted-both m held passages estimates P worker ready call other refusal goes =
+    provided-both P (fits m held passages estimates) _ _ _ (refusal unfit (omega arith))
+    (λ f. provided-both P (ltb worker (m .k)) _ _ _ (refusal noWorker (omega arith))
+    (λ l. provided-both P (eqb (m .phase) 0) _ _ _ (refusal notSearching (omega arith))
+    (λ p. provided-both P ready _ call other (refusal wrongHands (omega arith))
+    (λ r. goes (record { fit = f; worker-in = ltb-true worker (m .k) l; searching = eqb-true (m .phase) 0 p }) r))))
+
+-- the same of one call
 pub admitted-either : (m : Machine) (held passages estimates : List ℕ) (P : Answer → Type 0) (worker : ℕ) (ready : Bool) (call : Answer) → ((number : ℕ) → number ≤ 11 → P (refused m number))
     → (Admitted m held passages estimates worker → ready ≡ true → P call) → P (admitted m held passages estimates worker ready call)
-unfolding admitted
-admitted-either m held passages estimates P worker ready call refusal goes =
-    provided-either P (fits m held passages estimates) _ _ (refusal unfit (omega arith))
-    (λ f. provided-either P (ltb worker (m .k)) _ _ (refusal noWorker (omega arith))
-    (λ l. provided-either P (eqb (m .phase) 0) _ _ (refusal notSearching (omega arith))
-    (λ p. provided-either P ready _ call (refusal wrongHands (omega arith))
-    (λ r. goes (record { fit = f; worker-in = ltb-true worker (m .k) l; searching = eqb-true (m .phase) 0 p }) r))))
+admitted-either m held passages estimates P worker ready call refusal goes = admitted-both m held passages estimates (λ x _. P x) worker ready call call refusal goes
 
 -- one whose worker's hands aren't ready, and one that goes on
 module _ (m : Machine) (held passages estimates : List ℕ) (worker : ℕ) (ready : Bool) (call : Answer) where
@@ -161,15 +167,15 @@ Placed (Deal s) = s < 256
 Placed Stuck = Unit {0}
 Placed (Wait s) = s < 256
 
+pub placed-by : (d : Decision) → ((s : ℕ) → d ≡ Deal s → s < 256) → ((s : ℕ) → d ≡ Wait s → s < 256) → Placed d
+placed-by (Found cost) f g = tt
+placed-by NoPath f g = tt
+placed-by (Deal s) f g = f s refl
+placed-by Stuck f g = tt
+placed-by (Wait s) f g = g s refl
+
 pub placed : (goal pull : ℕ) (b : Board) → b .n ≤ 256 → Placed (decision goal pull b)
-placed goal pull b l = go (decision goal pull b) (λ s e. omega (arith, deal-in goal pull b s e)) (λ s e. omega (arith, wait-in goal pull b s e))
-  where
-    go : (d : Decision) → ((s : ℕ) → d ≡ Deal s → s < 256) → ((s : ℕ) → d ≡ Wait s → s < 256) → Placed d
-    go (Found cost) f g = tt
-    go NoPath f g = tt
-    go (Deal s) f g = f s refl
-    go Stuck f g = tt
-    go (Wait s) f g = g s refl
+placed goal pull b l = placed-by (decision goal pull b) (λ s e. omega (arith, deal-in goal pull b s e)) (λ s e. omega (arith, wait-in goal pull b s e))
 
 -- the state s can be brought: far ends have places in the rows, and label + cost of a passage that isn't blocked fits 32 bits
 pub record Carried (m : Machine) (passages : List ℕ) (s : ℕ) : Type 0 where

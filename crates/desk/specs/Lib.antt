@@ -5,6 +5,7 @@ pub mod Fits
 pub mod Admission
 pub mod Opening
 pub mod Take
+pub mod Limited
 pub mod Bring
 pub mod Path
 pub mod Calls
@@ -12,3 +13,4 @@ pub mod Morning
 pub mod CallLaws
 pub mod Laws
 pub mod ToldLaws
+pub mod LimitedLaws

@@ -5,7 +5,7 @@ use Prim.Native.Nat.{ℕ, _+_, _*_, _/_, _%_}
 use lib.Dec.{eqb}
 use Rattle.desk.specs.declared.Machine.{Machine}
 use Rattle.desk.specs.declared.Reply.{Reply}
-use Rattle.desk.specs.declared.Reply.the-variants.{Opened, Took, Brought, Found, NoPath, Wait, Read, Refused, Done}
+use Rattle.desk.specs.declared.Reply.the-variants.{Opened, Took, Brought, Found, NoPath, Wait, Read, Refused, Done, Cut}
 use Rattle.desk.specs.declared.Answer.{Answer}
 
 -- "Each call takes a machine and replies beside the machine that the call hands back."
@@ -27,8 +27,9 @@ caseOf (Wait s) = 5
 caseOf (Read many) = 6
 caseOf (Refused number) = 7
 caseOf Done = 8
+caseOf (Cut limit) = 9
 
--- the number that the reply carries: the state taken, the labels set or lowered, the cost found, the state waited for, the states of the path, the refusal's number; 0 where it carries none
+-- the number that the reply carries: the state taken, the labels set or lowered, the cost found, the state waited for, the states of the path, the refusal's number, the limit that a Take was cut short at; 0 where it carries none
 abbrev pub valueOf : Reply → ℕ
 valueOf Opened = 0
 valueOf (Took s) = s
@@ -39,6 +40,7 @@ valueOf (Wait s) = s
 valueOf (Read many) = many
 valueOf (Refused number) = number
 valueOf Done = 0
+valueOf (Cut limit) = limit
 
 -- the cases that callers look for
 abbrev pub took : ℕ
@@ -76,7 +78,8 @@ replyWith case value =
     (cond (eqb case 6) (Read value)
     (cond (eqb case 7) (Refused value)
     (cond (eqb case 8) Done
-    Opened)))))))
+    (cond (eqb case 9) (Cut value)
+    Opened))))))))
 
 unfoldable pub replyOf : ℕ → Reply
 replyOf code = replyWith (code / 4294967296) (code % 4294967296)

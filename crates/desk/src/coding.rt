@@ -17,5 +17,6 @@ pub fn code(reply: Reply) -> u64
         Reply::Read(many) => 25769803776 + (many as u64),
         Reply::Refused(number) => 30064771072 + (number as u64),
         Reply::Done => 34359738368,
+        Reply::Cut(limit) => 38654705664 + (limit as u64),
     }
 }

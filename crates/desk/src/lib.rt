@@ -1,10 +1,11 @@
 // The route desk: a machine that deals junction states out to workers and takes them back, one call at a time.
-// The calls are Machine::opening, take, bring, morning and path. Each is defined for every input.
+// The calls are Machine::opening, take, take_limited, bring, morning and path. Each is defined for every input.
 // A call looks at the task's conditions 1 to 4, which no event changes, and goes on with what it found: a morning looks once for all
 // its events, and `called` serves one event for a caller that looked before.
 mod bring;
 mod coding;
 mod fits;
+mod limited;
 mod mornings;
 mod opening;
 mod path;
@@ -40,10 +41,18 @@ pub enum Reply {
     Read(u16),
     Refused(u8),
     Done,
+    Cut(u32),
 }
 
 // The machine that a call hands back, with its reply beside it.
 pub struct Answer {
     pub machine: Machine,
     pub reply: Reply,
+}
+
+// The answer of a limited Take, with the comparisons that it made.
+pub struct Counted {
+    pub machine: Machine,
+    pub reply: Reply,
+    pub comparisons: usize,
 }

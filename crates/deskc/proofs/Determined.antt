@@ -18,6 +18,9 @@ desk-open = (λ κs a. tt, λ κs a x y p q i. (same (p .0) (q .0) i, (tt, (tt, 
 pub desk-take : Answers f.desk_take.ended f.desk_take.Reads.Asked f.desk_take.Reads.Learnt
 desk-take = (λ κs a. tt, λ κs a x y p q i. (same (p .0) (q .0) i, (same (p .1) (q .1) i, (tt, (tt, (tt, tt))))))
 
+pub desk-take-limited : Answers f.desk_take_limited.ended f.desk_take_limited.Reads.Asked f.desk_take_limited.Reads.Learnt
+desk-take-limited = (λ κs a. tt, λ κs a x y p q i. (same (p .0) (q .0) i, (same (p .1) (q .1) i, (tt, (tt, (tt, (tt, tt)))))))
+
 pub desk-bring : Answers f.desk_bring.ended f.desk_bring.Reads.Asked f.desk_bring.Reads.Learnt
 desk-bring = (λ κs a. tt, λ κs a x y p q i. (same (p .0) (q .0) i, (same (p .1) (q .1) i, (tt, (tt, (tt, tt))))))
 

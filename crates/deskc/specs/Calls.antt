@@ -1,7 +1,7 @@
 -- The calls over a row: what each returns as a number, and what the row then holds.
 use mathlib.Core.Bool.{cond}
 use mathlib.Core.List.{List}
-use Prim.Native.Nat.{ℕ}
+use Prim.Native.Nat.{ℕ, _+_, _*_}
 use lib.ListN.{length}
 use lib.Dec.{eqb}
 use Rattle.laws.specs.Truth.{provided}
@@ -9,9 +9,11 @@ use Rattle.rule.specs.Refusals.{unfit}
 use Rattle.checks.specs.Opening.{Task}
 use Rattle.desk.specs.declared.Reply.the-variants.{Refused}
 use Rattle.desk.specs.declared.Answer.{Answer}
+use Rattle.desk.specs.declared.Counted.{Counted}
 use Rattle.desk.specs.Reply.{codeOf}
 use Rattle.desk.specs.Opening.{openingOf}
 use Rattle.desk.specs.Take.{takeOf}
+use Rattle.desk.specs.Limited.{limitedOf}
 use Rattle.desk.specs.Bring.{bringOf}
 use Rattle.desk.specs.Path.{PathReading, pathOf}
 use Rattle.desk.specs.Morning.{Morning, morningFault, morningOf}
@@ -40,6 +42,13 @@ turnOf row a = provided (isRow row) (unturned row) (turned row a)
 
 abbrev pub takeRow : List ℕ → List ℕ → List ℕ → ℕ → Turn
 takeRow row passages estimates worker = turnOf row (takeOf (unpacked row) passages estimates worker)
+
+-- a limited Take: "Its reply carries how many comparisons it made", times 2^40 above the reply's own number
+abbrev pub counting : List ℕ → Counted → Turn
+counting row c = record { code = c .comparisons * 1099511627776 + codeOf (c .reply); row = changed row (c .machine) }
+
+unfoldable pub takeLimitedRow : List ℕ → List ℕ → List ℕ → ℕ → ℕ → Turn
+takeLimitedRow row passages estimates worker limit = provided (isRow row) (unturned row) (counting row (limitedOf (unpacked row) passages estimates worker limit))
 
 abbrev pub bringRow : List ℕ → List ℕ → List ℕ → ℕ → Turn
 bringRow row passages estimates worker = turnOf row (bringOf (unpacked row) passages estimates worker)

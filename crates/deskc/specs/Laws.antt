@@ -2,7 +2,7 @@
 use mathlib.Core.Path.{_≡_, refl, sym, ap, _∙_}
 use mathlib.Core.Bool.{Bool, true, false, _&&_}
 use mathlib.Core.List.{List, [], _∷_, _++_, append-nil, append-assoc}
-use Prim.Native.Nat.{ℕ, suc, _+_, _≤_, _<_}
+use Prim.Native.Nat.{ℕ, suc, _+_, _*_, _≤_, _<_}
 use native.Mathlib.Nat.{zero-add, suc-add}
 use native.Mathlib.Omega.{arith}
 use lib.ListN.{length, getD, set, take, drop, length-set, length-append, length-take, length-drop, drop-of-length-le, take-append-drop}
@@ -21,13 +21,15 @@ use Rattle.desk.specs.declared.Machine.{Machine}
 use Rattle.desk.specs.Opening.{openingOf, openedMachine, blankMachine}
 use Rattle.desk.specs.declared.Reply.the-variants.{Refused}
 use Rattle.desk.specs.declared.Answer.{Answer}
+use Rattle.desk.specs.declared.Counted.{Counted}
 use Rattle.desk.specs.Reply.{codeOf, refused}
 use Rattle.desk.specs.Machine.{withPhase, withMark, withHands, handsOf}
 use Rattle.desk.specs.Take.{dealt, takeOf}
+use Rattle.desk.specs.Limited.{limitedOf}
 use Rattle.desk.specs.Calls.{Event, call}
-use Rattle.desk.specs.ToldLaws.{taken, take-told, call-refused}
+use Rattle.desk.specs.ToldLaws.{taken, take-told, limited-told, call-refused}
 use Rattle.desk.specs.Laws.{Sized}
-use Rattle.deskc.specs.Calls.{turnOf, takeRow}
+use Rattle.deskc.specs.Calls.{turnOf, takeRow, takeLimitedRow}
 use Rattle.deskc.specs.Weights.{clamped}
 use Rattle.deskc.specs.Row.{atMost, isRow, part, unpacked, changing, changed, packed}
 
@@ -270,3 +272,16 @@ module _ (row passages estimates : List ℕ) (e : isRow row ≡ true) (given : A
   turn-refused v number g r =
       let still : given .machine ≡ unpacked row = rw g (call-refused (unpacked row) passages estimates v number (rw g at r)) in
       turn-made row row given (call passages estimates (unpacked row) v) code e g q (sym (ap (changed row) still ∙ changed-unpacked row e))
+
+-- a limited Take over a row, by whether the row holds a machine
+module _ (row passages estimates : List ℕ) (worker limit code : ℕ) where
+  pub counting-unfit : isRow row ≡ false → code ≡ codeOf (Refused unfit) → (code ≡ takeLimitedRow row passages estimates worker limit .code) × (row ≡ takeLimitedRow row passages estimates worker limit .row)
+  unfolding takeLimitedRow
+  counting-unfit e q = (rw e q, rw e refl)
+
+  pub counting-told : (next : List ℕ) (given : Counted) → isRow row ≡ true → given ≡ limitedOf (unpacked row) passages estimates worker limit
+      → code ≡ given .comparisons * 1099511627776 + codeOf (given .reply) → next ≡ changed row (taken (unpacked row) worker (given .reply))
+      → (code ≡ takeLimitedRow row passages estimates worker limit .code) × (next ≡ takeLimitedRow row passages estimates worker limit .row)
+  unfolding takeLimitedRow
+  counting-told next given e g q n =
+      (rw (e, ← g) q, rw e (n ∙ ap (λ (c : Counted). changed row (taken (unpacked row) worker (c .reply))) g ∙ ap (changed row) (sym (limited-told (unpacked row) passages estimates worker limit))))

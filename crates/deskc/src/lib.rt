@@ -1,4 +1,4 @@
-// The desk for C: opening, Take, Bring, whole mornings, path reading, printing, maps and task files, over numbers and lent rows of numbers.
+// The desk for C: opening, Take, the limited Take, Bring, whole mornings, path reading, printing, maps and task files, over numbers and lent rows of numbers.
 // include/route_desk.h declares each.
 ghost use mathlib.Core.Path.{_≡_};
 ghost use Rattle.checks.specs.Opening.{task};
@@ -7,7 +7,7 @@ ghost use Rattle.report.specs.Text.{reportLength, reportBuffer};
 ghost use Rattle.taskfile.specs.Writing.{writeOf};
 ghost use Rattle.deskc.specs.Maps.{surveyCode, spotCode};
 ghost use Rattle.deskc.specs.Files.{filedCode, headOf, fileRow};
-ghost use Rattle.deskc.specs.Calls.{openRow, takeRow, bringRow, morningRow, pathRow};
+ghost use Rattle.deskc.specs.Calls.{openRow, takeRow, takeLimitedRow, bringRow, morningRow, pathRow};
 
 mod files;
 mod maps;
@@ -64,6 +64,28 @@ pub extern "C" fn desk_take(
     let reply = answer.reply;
     row::put_taken(machine, worker, reply);
     desk::code(reply)
+}
+
+#[no_mangle]
+pub extern "C" fn desk_take_limited(
+    machine: &mut [u32],
+    passages: &[u32],
+    estimates: &[u32],
+    worker: usize,
+    limit: usize,
+) -> u64
+    ensures { λ r. ⌜ r ≡ takeLimitedRow (now (machine .entry)) (now (passages .entry)) (now (estimates .entry)) worker limit .code ⌝ }
+    ensures { λ r. ⌜ now (machine .exit) ≡ takeLimitedRow (now (machine .entry)) (now (passages .entry)) (now (estimates .entry)) worker limit .row ⌝ }
+{
+    if !row::is_row(machine) {
+        return row::unfit();
+    }
+    let m = row::unpack(machine);
+    let counted = m.take_limited(passages, estimates, worker, limit);
+    let reply = counted.reply;
+    row::put_taken(machine, worker, reply);
+    let made = counted.comparisons as u64;
+    made * 1099511627776 + desk::code(reply)
 }
 
 #[no_mangle]

@@ -9,7 +9,7 @@ use native.Mathlib.Numerals.{add-one}
 use native.Mathlib.Omega.{arith}
 use lib.Dec.{eqb}
 use borrow.Author.Tests.{eq-eqb, ne-eqb}
-use Rattle.laws.specs.Truth.{and-both, and-false}
+use Rattle.laws.specs.Truth.{and-both, and-false, and-true}
 
 -- 1 where a test passes
 abbrev pub one : Bool → ℕ
@@ -73,6 +73,16 @@ pub count-none : (p : ℕ → Bool) (n : ℕ) → ((x : ℕ) → x < n → p x �
 unfolding count
 count-none p zero f = refl
 count-none p (suc n) f = rw (f n (omega arith)) (omega (arith, count-none p n (λ x l. f x (omega arith))))
+
+-- of the numbers that pass c and q, where q passes just below k: as many as pass c below k
+pub count-upto : (c q : ℕ → Bool) (k n : ℕ) → k ≤ n → ((x : ℕ) → x < k → q x ≡ true) → ((x : ℕ) → k ≤ x → x < n → q x ≡ false) → count (λ x. c x && q x) n ≡ count c k
+unfolding count
+count-upto c q k zero l f g = let e : k ≡ 0 = omega arith in rw e
+count-upto c q k (suc n) l f g = go (λ m. count-upto c q k n m f (λ x a b. g x a (omega arith))) (ℕ-discrete k (suc n))
+  where
+    go : (k ≤ n → count (λ x. c x && q x) n ≡ count c k) → Dec (k ≡ suc n) → count (λ x. c x && q x) (suc n) ≡ count c k
+    go ih (yes e) = rw e (count-eq (λ x. c x && q x) c (suc n) (λ x m. rw (f x (omega arith)) (and-true (c x))))
+    go ih (no z) = rw (g n (omega arith) (omega arith), and-false (c n)) (omega (arith, ih (omega arith)))
 
 -- one more passes, and nothing else changed
 pub count-suc : (p q : ℕ → Bool) (n i : ℕ) → i < n → p i ≡ false → q i ≡ true → ((x : ℕ) → x < n → x ≢ i → p x ≡ q x) → count q n ≡ suc (count p n)

@@ -8,7 +8,7 @@ use native.Mathlib.Decide.{ℕ-discrete}
 use native.Mathlib.Numerals.{add-one}
 use native.Mathlib.Omega.{arith}
 use lib.ListN.{length, getD, set, take, drop, List·getD-append, length-append, length-take, length-drop, length-set, take-append-drop}
-use lib.Seq.{getD-at, set-split, take-at, drop-at, drop-drop}
+use lib.Seq.{getD-at, set-split, take-all, take-at, drop-at, drop-drop, ext-getD, getD-set-same, getD-set-other}
 use Rattle.laws.specs.Part.{overlaid}
 
 -- f 0, f 1, .. f (n - 1)
@@ -93,3 +93,19 @@ filled-front f l₀ l i w h v e = rw zero-add at (filled-more f 0 l₀ l i w (om
 
 pub filled-end : {X : Type 0} (f : ℕ → X) (at n : ℕ) (l₀ l : List X) (i : ℕ) → Filled f at l₀ l i → i ≤ n → n ≤ i → l ≡ overlaid at (made f n) l₀
 filled-end f at n l₀ l i w a b = let q : i ≡ n = omega arith in rw q at (w .done)
+
+-- all places filled
+pub filled-whole : {X : Type 0} (f : ℕ → X) (n : ℕ) (l₀ l : List X) (i : ℕ) → Filled f 0 l₀ l i → i ≤ n → n ≤ i → length l₀ ≡ n → l ≡ made f n
+filled-whole f n l₀ l i w a b e =
+    sym (take-all (length (made f n)) l (omega (arith, w .long, made-length f n))) ∙ ap (take (length (made f n))) (filled-end f 0 n l₀ l i w a b) ∙ overlaid-front (made f n) l₀
+
+-- a list made of f, with the one place stored at which g differs, is made of g
+pub made-set : {X : Type 0} (f g : ℕ → X) (n i : ℕ) → i < n → ((x : ℕ) → x < n → (x ≡ i → ⊥) → f x ≡ g x) → set (made f n) i (g i) ≡ made g n
+made-set f g n i l e = ext-getD (g i) (set (made f n) i (g i)) (made g n) (long ∙ sym (made-length g n)) (λ x k. at x (omega (arith, long)) (ℕ-discrete x i))
+  where
+    long : length (set (made f n) i (g i)) ≡ n
+    long = length-set (made f n) i (g i) ∙ made-length f n
+
+    at : (x : ℕ) → x < n → Dec (x ≡ i) → getD (set (made f n) i (g i)) x (g i) ≡ getD (made g n) x (g i)
+    at x k (yes q) = rw q (getD-set-same (made f n) i (g i) (g i) (omega (arith, made-length f n)) ∙ sym (made-at g n i (g i) l))
+    at x k (no z) = getD-set-other (made f n) i x (g i) (g i) z ∙ made-at f n x (g i) k ∙ e x k z ∙ sym (made-at g n x (g i) k)

@@ -5,6 +5,7 @@ use mathlib.Core.Bool.{Bool, true, false, cond, true≢false}
 use mathlib.Core.Logic.{⊎-elim, _⊎_, inl, inr}
 use Prim.Native.Nat.{ℕ, zero, suc, _+_, _≤_, _<_}
 use native.Mathlib.Nat.{le-of-suc-le-suc, not-suc-le-zero, eq-or-lt-of-le, le-refl, lt-irrefl}
+use native.Mathlib.Decide.{decLe}
 use native.Mathlib.Numerals.{add-one}
 use native.Mathlib.Omega.{arith}
 use borrow.Author.Tests.{lt-ltb, le-ltb, ltb-true, ltb-false}
@@ -89,6 +90,14 @@ module _ (p : ℕ → Bool) where
       v)
       (first-cases n (eq-or-lt-of-le (first-le n)) (p n) refl)
 
+  -- none below i: the first isn't below i
+  pub first-from : (i n : ℕ) → first p i ≡ i → i ≤ n → i ≤ first p n
+  first-from i n e l = go (decLe i (first p n))
+    where
+      go : Dec (i ≤ first p n) → i ≤ first p n
+      go (yes g) = g
+      go (no z) = absurd (true≢false (sym (first-passes n (omega arith)) ∙ first-before i (first p n) (omega (arith, e))))
+
   -- where nothing passes, nothing is found
   pub first-none : (n : ℕ) → ((x : ℕ) → x < n → p x ≡ false) → first p n ≡ n
   first-none n f = ⊎-elim (λ q. q) (λ l. absurd (true≢false (sym (first-passes n l) ∙ f (first p n) l))) (eq-or-lt-of-le (first-le n))
@@ -109,3 +118,9 @@ module _ (p : ℕ → Bool) where
       go : (b : Bool) → any p n ≡ b → any p n ≡ true
       go true q = q
       go false q = absurd (true≢false (sym e ∙ any-none n q x l))
+
+-- two tests that agree below n have the same first
+pub first-same : (p q : ℕ → Bool) (n : ℕ) → ((x : ℕ) → x < n → p x ≡ q x) → first p n ≡ first q n
+unfolding first
+first-same p q zero f = refl
+first-same p q (suc n) f = rw (first-same p q n (λ x l. f x (omega arith)), f n (omega arith))

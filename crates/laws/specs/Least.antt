@@ -5,6 +5,7 @@ use mathlib.Core.Bool.{Bool, true, false, cond, true≢false}
 use mathlib.Core.Logic.{_⊎_, inl, inr, ⊎-elim}
 use Prim.Native.Nat.{ℕ, zero, suc, _+_, _≤_, _<_}
 use native.Mathlib.Nat.{le-of-suc-le-suc, not-suc-le-zero, eq-or-lt-of-le}
+use native.Mathlib.Decide.{ℕ-discrete, decLe, decLt}
 use native.Mathlib.Numerals.{add-one}
 use native.Mathlib.Omega.{arith}
 use borrow.Author.Tests.{lt-ltb, le-ltb, eq-eqb, ne-eqb, eqb-false, ltb-true, ltb-false}
@@ -122,3 +123,93 @@ module _ (p : ℕ → Bool) (key : ℕ → ℕ) (none : ℕ) where
   least-lowest zero l n x k y = absurd (n refl)
   least-lowest (suc i) l n x k y =
       lowest-step i (least p key none i) l (least-is i (omega arith)) (least-lowest i (omega arith)) (p i) refl x k y n
+
+  -- where nothing below n passes, nothing is chosen
+  pub least-none : (n : ℕ) → n ≤ none → ((x : ℕ) → x < n → p x ≡ false) → least p key none n ≡ none
+  least-none n l f = ⊎-elim (λ w. w .0) (λ w. absurd (true≢false (sym (w .1) ∙ f (least p key none n) (w .0)))) (least-is n l)
+
+  -- no key of what passes is smaller than that of what was chosen
+  pub least-smallest : (n x : ℕ) → n ≤ none → x < n → p x ≡ true → key (least p key none n) ≤ key x
+  least-smallest n x l k y = ⊎-elim (λ w. absurd (true≢false (sym y ∙ w .1 x k))) (λ w. w .2 x k y) (least-is n l)
+
+  -- numbers that fail leave it as it was
+  pub least-stays : (i n : ℕ) → i ≤ n → ((x : ℕ) → i ≤ x → x < n → p x ≡ false) → least p key none n ≡ least p key none i
+  unfolding least
+  least-stays i zero l f = let q : i ≡ 0 = omega arith in rw q
+  least-stays i (suc n) l f = go (λ m. least-stays i n m (λ x a b. f x a (omega arith))) (ℕ-discrete i (suc n))
+    where
+      go : (i ≤ n → least p key none n ≡ least p key none i) → Dec (i ≡ suc n) → least p key none (suc n) ≡ least p key none i
+      go ih (yes e) = rw e
+      go ih (no z) = rw (f n (omega arith) (omega arith)) (ih (omega arith))
+
+  -- a loop may start at i where nothing before i passes, and end at i where nothing between i and n does
+  pub best-from : (i k : ℕ) → ((x : ℕ) → x < i → p x ≡ false) → Best p key none i none k
+  unfolding least
+  best-from i k f = record { at = sym (least-stays 0 i (omega arith) (λ x a b. f x b)); known = λ h. absurd (h refl) }
+
+  pub best-past : (i n b k : ℕ) → Best p key none i b k → ((x : ℕ) → i ≤ x → x < n → p x ≡ false) → ((x : ℕ) → n ≤ x → x < i → p x ≡ false) → b ≡ least p key none n
+  best-past i n b k c f g = go (decLe i n)
+    where
+      go : Dec (i ≤ n) → b ≡ least p key none n
+      go (yes l) = c .at ∙ sym (least-stays i n l f)
+      go (no z) = c .at ∙ least-stays n i (omega arith) g
+
+module _ (key : ℕ → ℕ) where
+  -- the order by key and number: t's key is larger than s's, or the same and its number larger
+  abbrev pub After : ℕ → ℕ → Type 0
+  After s t = (key s < key t) ⊎ ((key s ≡ key t) × (s < t))
+
+  pub after-on : (s t u : ℕ) → After s t → After t u → After s u
+  after-on s t u (inl a) (inl c) = inl (omega arith)
+  after-on s t u (inl a) (inr c) = inl (omega arith)
+  after-on s t u (inr a) (inl c) = inl (omega arith)
+  after-on s t u (inr a) (inr c) = inr (omega arith, omega arith)
+
+  pub after-not : (s : ℕ) → After s s → ⊥
+  after-not s (inl a) = omega arith
+  after-not s (inr a) = omega arith
+
+-- what is least comes before all others that pass; and what does so is least
+module _ (p : ℕ → Bool) (key : ℕ → ℕ) (none n : ℕ) (l : n ≤ none) where
+  pub least-after : (least p key none n ≡ none → ⊥) → (x : ℕ) → x < n → p x ≡ true → (x ≡ least p key none n → ⊥) → After key (least p key none n) x
+  least-after z x k y d = go (decLt (key (least p key none n)) (key x)) (decLt x (least p key none n))
+    where
+      go : Dec (key (least p key none n) < key x) → Dec (x < least p key none n) → After key (least p key none n) x
+      go (yes a) _ = inl a
+      go (no a) (yes c) = absurd (a (least-lowest p key none n l z x c y))
+      go (no a) (no c) = inr (omega (arith, least-smallest p key none n x l k y), omega (arith, d))
+
+  pub least-only : (b : ℕ) → b < n → p b ≡ true → ((x : ℕ) → x < n → p x ≡ true → (x ≡ b → ⊥) → After key b x) → least p key none n ≡ b
+  least-only b k y f = go (ℕ-discrete (least p key none n) b)
+    where
+      some : least p key none n ≡ none → ⊥
+      some e = true≢false (sym y ∙ least-nothing p key none n l (omega arith) b k)
+
+      go : Dec (least p key none n ≡ b) → least p key none n ≡ b
+      go (yes e) = e
+      go (no d) =
+          absurd (after-not key b (after-on key b (least p key none n) b
+          (f (least p key none n) (least-below p key none n l some) (least-passes p key none n some) d)
+          (least-after some b k y (λ e. d (sym e)))))
+
+-- two tests that agree below n, with keys that agree where they pass, have the same least
+pub least-same : (p q : ℕ → Bool) (key key′ : ℕ → ℕ) (none n : ℕ) → n ≤ none → ((x : ℕ) → x < n → p x ≡ q x) → ((x : ℕ) → x < n → q x ≡ true → key x ≡ key′ x)
+    → least p key none n ≡ least q key′ none n
+least-same p q key key′ none n l f g = go (ℕ-discrete (least q key′ none n) none)
+  where
+    b : ℕ
+    b = least q key′ none n
+
+    go : Dec (b ≡ none) → least p key none n ≡ b
+    go (yes e) = least-none p key none n l (λ x k. f x k ∙ least-nothing q key′ none n l (omega arith) x k) ∙ sym e
+    go (no z) = least-only p key none n l b low (f b low ∙ passes) (λ x k y d. turn x k (sym (f x k) ∙ y) (least-after q key′ none n l z x k (sym (f x k) ∙ y) d))
+      where
+        low : b < n
+        low = least-below q key′ none n l z
+
+        passes : q b ≡ true
+        passes = least-passes q key′ none n z
+
+        turn : (x : ℕ) → x < n → q x ≡ true → After key′ b x → After key b x
+        turn x k y (inl a) = inl (omega (arith, g x k y, g b low passes))
+        turn x k y (inr a) = inr (omega (arith, g x k y, g b low passes), omega arith)

@@ -1,6 +1,6 @@
 -- Truth values: conjunctions taken apart and put together, and the ladder of refusals.
 -- Assumes nothing.
-use mathlib.Core.Path.{_≡_, refl}
+use mathlib.Core.Path.{_≡_, refl, sym}
 use mathlib.Core.Bool.{Bool, true, false, _&&_, _||_, cond, false≢true}
 use mathlib.Core.Logic.{_⊎_, inl, inr}
 use Prim.Native.Nat.{ℕ}
@@ -32,6 +32,16 @@ pub or-second : (a b : Bool) → b ≡ true → (a || b) ≡ true
 or-second true b e = refl
 or-second false b e = e
 
+pub never-true : (b : Bool) → (b ≡ true → ⊥) → b ≡ false
+never-true true f = absurd (f refl)
+never-true false f = refl
+
+-- where each of two follows from the other, they are the same
+pub same-truth : (a b : Bool) → (a ≡ true → b ≡ true) → (b ≡ true → a ≡ true) → a ≡ b
+same-truth true b f g = sym (f refl)
+same-truth false true f g = g refl
+same-truth false false f g = refl
+
 -- what holds of both sides of a choice holds of what is chosen
 pub cond-either : {A : Type 0} (P : A → Type 0) (b : Bool) (first second : A) → P first → P second → P (cond b first second)
 cond-either P true first second p q = p
@@ -51,6 +61,11 @@ provided false refusal call = refusal
 pub provided-either : {A : Type 0} (P : A → Type 0) (ok : Bool) (refusal call : A) → P refusal → (ok ≡ true → P call) → P (provided ok refusal call)
 provided-either P true refusal call r c = c refl
 provided-either P false refusal call r c = r
+
+-- of two calls in the same place: both are refused, or the condition holds
+pub provided-both : {A : Type 0} (P : A → A → Type 0) (ok : Bool) (refusal call other : A) → P refusal refusal → (ok ≡ true → P call other) → P (provided ok refusal call) (provided ok refusal other)
+provided-both P true refusal call other r c = c refl
+provided-both P false refusal call other r c = r
 
 -- what doesn't hold of the refusal and holds of both together: the condition holds, and it holds of the call
 pub provided-held : {A : Type 0} (P : A → Type 0) (ok : Bool) (refusal call : A) → (P refusal → ⊥) → P (provided ok refusal call) → (ok ≡ true) × P call

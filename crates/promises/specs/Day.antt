@@ -8,6 +8,7 @@ use Rattle.desk.specs.declared.Reply.{Reply}
 use Rattle.desk.specs.declared.Answer.{Answer}
 use Rattle.desk.specs.Reply.{refusal, when, replyOf}
 use Rattle.desk.specs.Opening.{openingOf}
+use Rattle.desk.specs.Limited.{limitedAnswer}
 use Rattle.desk.specs.Path.{pathOf}
 use Rattle.desk.specs.Calls.{Event, call}
 use Rattle.desk.specs.Morning.{Morning, morningOf}
@@ -20,12 +21,15 @@ pub data Call : Type 0 where
   morning : List ℕ → List ℕ → Call
   -- path reading: the buffer that is lent, and the place from which on it is written
   reading : List ℕ → ℕ → Call
+  -- order 7: a limited Take of a worker, and its limit
+  limited : ℕ → ℕ → Call
 
 -- its answer, given the task and a machine
 abbrev pub answerTo : Task → Machine → Call → Answer
 answerTo t m (single e) = call (t .passages) (t .estimates) m e
 answerTo t m (morning events row) = morningOf m (t .passages) (t .estimates) events row .given
 answerTo t m (reading buffer at) = pathOf m (t .passages) (t .estimates) buffer at .given
+answerTo t m (limited worker limit) = limitedAnswer m (t .passages) (t .estimates) worker limit
 
 -- the replies that stand in a morning's row, one for each of so many events; a morning that was refused wrote none
 abbrev pub inRow : ℕ → Morning → List Reply
@@ -36,6 +40,7 @@ abbrev pub writtenBy : Task → Machine → Call → List Reply
 writtenBy t m (single e) = []
 writtenBy t m (morning events row) = inRow (length events) (morningOf m (t .passages) (t .estimates) events row)
 writtenBy t m (reading buffer at) = []
+writtenBy t m (limited worker limit) = []
 
 -- and all that it replied, its own reply last
 abbrev pub repliesTo : Task → Machine → Call → List Reply

@@ -13,13 +13,17 @@ use Rattle.rule.specs.Refusals.{nothingOut}
 use Rattle.argument.specs.Route.{Graph, Walk, costOf}
 use Rattle.checks.specs.Opening.{Task}
 use Rattle.dealing.specs.Board.{key}
+use Rattle.dealing.specs.Limited.{fullCount}
 use Rattle.desk.specs.declared.Machine.{Machine}
 use Rattle.desk.specs.declared.Reply.{Reply}
-use Rattle.desk.specs.declared.Reply.the-variants.{Opened, Found, NoPath, Read, Refused}
+use Rattle.desk.specs.declared.Reply.the-variants.{Opened, Found, NoPath, Read, Refused, Cut}
+use Rattle.desk.specs.declared.Counted.{Counted}
 use Rattle.desk.specs.Machine.{handsOf, markOf, labelOf, boardOf}
 use Rattle.desk.specs.Reply.{answer, took, when, replyOf}
 use Rattle.desk.specs.Fits.{fits}
 use Rattle.desk.specs.Opening.{openingOf}
+use Rattle.desk.specs.Take.{takeOf}
+use Rattle.desk.specs.Limited.{limitedOf}
 use Rattle.desk.specs.Path.{pathOf}
 use Rattle.desk.specs.Calls.{replies, after}
 use Rattle.desk.specs.Morning.{eventsOf, Morning}
@@ -124,3 +128,16 @@ pub record NoneBlocked (passages : List ℕ) (m : Machine) (buffer : List ℕ) (
   pub last : getD buffer (at + (many - 1)) 0 ≡ m .goal
   pub clear : (i : ℕ) → i + 1 < many
       → (p : ℕ) × (p < passageCount passages) × (isClear passages p ≡ true) × (near passages p ≡ getD buffer (at + i) 0) × (far passages p ≡ getD buffer (at + i + 1) 0)
+
+-- Order 7, a Take that knows when to stop. Of every machine, whatever is lent: "Its reply carries how many comparisons it made, equal to the count in the definition; 0 where refused. With a limit smaller than that full count it replies Cut, reports the limit and leaves the machine."
+pub record CountsRight (m : Machine) (estimates : List ℕ) (limit : ℕ) (r : Counted) : Type 0 where
+  pub refusing : (number : ℕ) → r .reply ≡ Refused number → (r .machine ≡ m) × (r .comparisons ≡ 0)
+  pub cutting : (c : ℕ) → r .reply ≡ Cut c → (c ≡ limit) × (r .machine ≡ m) × (r .comparisons ≡ limit) × (limit < fullCount (m .goal) (m .pull) (boardOf m estimates))
+  -- every other reply comes where the limit is enough
+  pub counting : ((number : ℕ) → r .reply ≢ Refused number) → ((c : ℕ) → r .reply ≢ Cut c)
+      → (r .comparisons ≡ fullCount (m .goal) (m .pull) (boardOf m estimates)) × (r .comparisons ≤ limit)
+
+-- "On a task that opening accepted and a machine reached from it by calls, it otherwise replies as Take does", and hands back the machine that Take hands back
+pub record LikeTake (t : Task) : Type 0 where
+  pub alike : (day : List Call) (worker limit : ℕ) → let m = reached t day in let r = limitedOf m (t .passages) (t .estimates) worker limit in let a = takeOf m (t .passages) (t .estimates) worker in
+      ((c : ℕ) → r .reply ≢ Cut c) → (r .machine ≡ a .machine) × (r .reply ≡ a .reply)

@@ -17,3 +17,4 @@ pub mod Mornings
 pub mod Runs
 pub mod Blocked
 pub mod Theorem
+pub mod Limited

@@ -6,7 +6,7 @@ use mathlib.Core.Bool.{Bool, true, false, _&&_, not, cond, true≢false}
 use Prim.Native.Nat.{ℕ, _+_, _*_, _≤_, _<_}
 use native.Mathlib.Decide.{ℕ-discrete}
 use native.Mathlib.Omega.{arith}
-use lib.Dec.{ltb, leb, eqb}
+use lib.Dec.{ltb, leb}
 use borrow.Author.Tests.{ltb-true, ltb-false, leb-true, eqb-true, ne-eqb, le-leb, not-false}
 use Rattle.laws.specs.Truth.{and-left, and-right, or-either}
 use Rattle.laws.specs.First.{first-before, first-none, any-none, any-some}
@@ -18,7 +18,7 @@ use Rattle.dealing.specs.Board.{Board, markAt, labelAt, h, dependsOn, firstDepe
 use Rattle.dealing.specs.declared.Decision.{Decision}
 use Rattle.dealing.specs.declared.Decision.the-variants.{Found, NoPath, Deal, Stuck, Wait}
 use Rattle.dealing.specs.Decision.{waitedFor, decision}
-use Rattle.dealing.specs.Laws.{safe-open, depends-self, choice-safe, choice-none}
+use Rattle.dealing.specs.Laws.{safe-open, depends-self, depends-dead, choice-safe, choice-none}
 
 -- s is independent of every other live state
 abbrev pub Free : Board → ℕ → Type 0
@@ -29,14 +29,6 @@ module _ (b : Board) (s : ℕ) where
   depends-live : (u : ℕ) → u ≢ s → isLive (markAt b u) ≡ true → dependsOn b s u ≡ not (leb (100 * labelAt b s) (100 * labelAt b u + b .excess * h b u s))
   unfolding dependsOn holdsBack
   depends-live u d l = rw (ne-eqb u s d, l, independent-is (labelAt b s) (labelAt b u) (b .excess) (h b u s))
-
-  depends-dead : (u : ℕ) → isLive (markAt b u) ≡ false → dependsOn b s u ≡ false
-  unfolding dependsOn holdsBack
-  depends-dead u l = rw l (none (not (eqb u s)))
-    where
-      none : (c : Bool) → (c && false) ≡ false
-      none true = refl
-      none false = refl
 
   -- so where it doesn't depend, the inequality of independence holds
   pub independent-of : (u : ℕ) → u ≢ s → isLive (markAt b u) ≡ true → dependsOn b s u ≡ false → 100 * labelAt b s ≤ 100 * labelAt b u + b .excess * h b u s
@@ -58,7 +50,7 @@ module _ (b : Board) (s : ℕ) where
   free-safe o f = safe-open b s o (first-none (dependsOn b s) (b .n) (λ u l. go u l (isLive (markAt b u)) refl (ℕ-discrete u s)))
     where
       go : (u : ℕ) → u < b .n → (a : Bool) → isLive (markAt b u) ≡ a → Dec (u ≡ s) → dependsOn b s u ≡ false
-      go u l false e d = depends-dead u e
+      go u l false e d = depends-dead b s u e
       go u l true e (yes q) = depends-self b s u q
       go u l true e (no d) = depends-live u d e ∙ ap not (le-leb _ _ (f u l d e))
 

@@ -15,7 +15,7 @@ use Rattle.dealing.specs.declared.Decision.{Decision}
 use Rattle.dealing.specs.declared.Decision.the-variants.{Found as FoundAt, NoPath as NoPathLeft, Deal, Stuck, Wait as WaitOn}
 use Rattle.desk.specs.declared.Machine.{Machine}
 use Rattle.desk.specs.declared.Reply.{Reply}
-use Rattle.desk.specs.declared.Reply.the-variants.{Opened, Took, Brought, Found, NoPath, Wait, Read, Refused, Done}
+use Rattle.desk.specs.declared.Reply.the-variants.{Opened, Took, Brought, Found, NoPath, Wait, Read, Refused, Done, Cut}
 use Rattle.desk.specs.Machine.{markOf, withPhase, labelOf, taskOf, boardOf, handsOf}
 use Rattle.desk.specs.Take.{act}
 use Rattle.desk.specs.Calls.{Event, call}
@@ -39,6 +39,7 @@ Says t m (Wait s) = Unit {0}
 Says t m (Read many) = Unit {0}
 Says t m (Refused number) = number ≢ nothingOut
 Says t m Done = Unit {0}
+Says t m (Cut limit) = Unit {0}
 
 -- what was said stays so, where after Found nothing changes
 pub says-later : (t : Task) (m m′ : Machine) → (m .phase ≡ 1 → m′ ≡ m) → (r : Reply) → Says t m r → Says t m′ r
@@ -51,6 +52,7 @@ says-later t m m′ still (Wait x) s = s
 says-later t m m′ still (Read many) s = s
 says-later t m m′ still (Refused number) s = s
 says-later t m m′ still Done s = s
+says-later t m m′ still (Cut limit) s = s
 
 module _ {passages estimates : List ℕ} {m : Machine} (z : Steady passages estimates m) where
   abbrev t : Task

@@ -1,7 +1,7 @@
 -- Runs: what one call keeps, calls keep that come one after the other. A morning's events and a day's calls are put together alike,
 -- so that a kind of call that is added is shown to be a run by itself, and is a line more in `call-run`.
 use mathlib.Core.Path.{_≡_, refl, subst, subst⁻¹, ap, _∙_}
-use mathlib.Core.Logic.{_⊎_, inl, inr, _≢_}
+use mathlib.Core.Logic.{_⊎_, inl, inr, ⊎-elim, _≢_}
 use mathlib.Core.List.{List, [], _∷_, _++_, List·Memᴰ, List·Memᴰ·not-nil, List·Memᴰ·append-cases, List·Memᴰ·eq-of-singleton}
 use Prim.Native.Nat.{ℕ, _+_, _≤_}
 use native.Mathlib.Omega.{arith}
@@ -10,16 +10,17 @@ use Rattle.rule.specs.Refusals.{nothingOut}
 use Rattle.checks.specs.Opening.{Task}
 use Rattle.desk.specs.declared.Machine.{Machine}
 use Rattle.desk.specs.declared.Reply.{Reply}
-use Rattle.desk.specs.declared.Reply.the-variants.{Read, Refused, Done}
+use Rattle.desk.specs.declared.Reply.the-variants.{Read, Refused, Done, Cut}
 use Rattle.desk.specs.declared.Answer.{Answer}
 use Rattle.desk.specs.Machine.{taskOf}
 use Rattle.desk.specs.Reply.{answer}
-use Rattle.desk.specs.Calls.{Event, call, answers, replies, after}
+use Rattle.desk.specs.Calls.{Event, take, call, answers, replies, after}
 use Rattle.desk.specs.Morning.{eventsOf}
-use Rattle.promises.specs.Day.{Call, single, morning, reading, answerTo, inRow, repliesTo, reachedFrom, saidFrom}
+use Rattle.promises.specs.Day.{Call, single, morning, reading, limited, answerTo, inRow, repliesTo, reachedFrom, saidFrom}
 use Rattle.promises.specs.Demand.{deals, timesDealt}
 use Rattle.desk.specs.Laws.{path-either}
 use Rattle.desk.specs.CallLaws.{call-task}
+use Rattle.desk.specs.LimitedLaws.{CutOrTake, cut-or-take}
 use Rattle.promises.specs.Calls.{call-either, morning-either}
 use Rattle.promises.specs.Fits.{Steady, call-steady}
 use Rattle.promises.specs.Once.{gone, call-once}
@@ -117,10 +118,20 @@ module _ {t : Task} where
     reading-run buffer at =
         path-either m (t .passages) (t .estimates) buffer at (λ o. Run t m (o .given .machine) (o .given .reply ∷ [])) refused-run (λ some room. run-told z (Read _) (λ s. refl) tt)
 
+    -- a limited Take is cut short or answers as Take does: the task passed check 7, and its W is at most its E
+    pub limited-alike : (worker limit : ℕ) → CutOrTake m (t .passages) (t .estimates) worker limit
+    limited-alike worker limit =
+        let sound = z .steady .sure .task in
+        cut-or-take m (t .passages) (t .estimates) worker limit (sound .right .goal-in) (sound .right .pulled) (sound .consistent .triangle)
+
+    limited-run : (worker limit : ℕ) → Run t m (answerTo t m (limited worker limit) .machine) (repliesTo t m (limited worker limit))
+    limited-run worker limit = ⊎-elim (λ e. rw e (run-told z (Cut limit) (λ s. refl) tt)) (λ e. rw e (event-run z (take worker))) (limited-alike worker limit)
+
     call-run : (c : Call) → Run t m (answerTo t m c .machine) (repliesTo t m c)
     call-run (single e) = event-run z e
     call-run (morning events row) = morning-run events row
     call-run (reading buffer at) = reading-run buffer at
+    call-run (limited worker limit) = limited-run worker limit
 
   pub day-run : {m : Machine} → Standing t m → (day : List Call) → Run t m (reachedFrom t m day) (saidFrom t m day)
   unfolding reachedFrom saidFrom

@@ -28,7 +28,7 @@ module _ (t : Task) (a : Accepted t) where
   }
 
   module _ (day : List Call) where
-    run : Run t (openingOf t .machine) (reached t day) (said t day)
+    pub run : Run t (openingOf t .machine) (reached t day) (said t day)
     run = day-run opened day
 
     goal-waits : markOf (reached t day) (t .goal) ≤ 1

@@ -1,21 +1,16 @@
 -- Who a Wait is for: the state that it names is live, something is out, and the smallest-key open state depends on it.
 use mathlib.Core.Path.{_≡_, refl, sym, subst, _∙_}
-use mathlib.Core.Bool.{Bool, true, false, not, cond, true≢false}
-use mathlib.Core.Logic.{_≢_, inl, inr}
+use mathlib.Core.Bool.{Bool, true, false, cond, true≢false}
 use mathlib.Core.List.{List}
-use Prim.Native.Nat.{ℕ, _+_, _*_, _<_}
+use Prim.Native.Nat.{ℕ, _<_}
 use native.Mathlib.Omega.{arith}
-use lib.Dec.{eqb}
-use borrow.Author.Tests.{ltb-true, leb-false, eqb-true, eqb-false, eq-eqb, not-true}
-use Rattle.laws.specs.Truth.{and-left, and-right}
+use borrow.Author.Tests.{ltb-true, eqb-true, eq-eqb}
 use Rattle.laws.specs.First.{first, first-passes, first-before, any-none, any-some}
-use Rattle.laws.specs.Least.{IsLeast, least-is, least-lowest}
-use Rattle.rule.specs.Marks.{waiting, out, isOpen, isOut, isLive}
-use Rattle.rule.specs.Rule.{independent, holdsBack}
-use Rattle.rule.specs.Laws.{independent-is}
-use Rattle.dealing.specs.Board.{Board, markAt, labelAt, h, dependsOn, firstDependence, safe, key, foremost, anyOpen, anyOut, firstMarked}
+use Rattle.laws.specs.Least.{least-smallest, least-lowest}
+use Rattle.rule.specs.Marks.{waiting, out, isOpen, isOut}
+use Rattle.dealing.specs.Board.{Board, markAt, dependsOn, firstDependence, safe, key, foremost, anyOpen, anyOut, firstMarked}
 use Rattle.dealing.specs.Decision.{waitedFor}
-use Rattle.dealing.specs.Laws.{foremost-held}
+use Rattle.dealing.specs.Laws.{depends-apart, depends-live, depends-behind, foremost-in, foremost-open, foremost-any, foremost-held}
 use Rattle.dealing.specs.declared.Decision.{Decision}
 use Rattle.dealing.specs.declared.Decision.the-variants.{Found, NoPath, Deal, Stuck, Wait as WaitOn}
 use Rattle.desk.specs.declared.Machine.{Machine}
@@ -26,22 +21,6 @@ use Rattle.desk.specs.Calls.{Event, call}
 use Rattle.promises.specs.Demand.{Foremost, HeldUp, WaitsFor}
 use Rattle.promises.specs.Progress.{independent-of, Chosen}
 use Rattle.promises.specs.Calls.{call-either}
-
--- what dependence on t says: t is another state, live, and its front with E × h(t,s) stays behind 100 × label s
-module _ (b : Board) (s t : ℕ) (e : dependsOn b s t ≡ true) where
-  depends-other : t ≢ s
-  unfolding dependsOn
-  depends-other = eqb-false t s (not-true (eqb t s) (and-left _ _ e))
-
-  depends-live : isLive (markAt b t) ≡ true
-  unfolding dependsOn holdsBack
-  depends-live = and-left _ _ (and-right (not (eqb t s)) _ e)
-
-  depends-behind : 100 * labelAt b t + b .excess * h b t s < 100 * labelAt b s
-  unfolding dependsOn holdsBack
-  depends-behind =
-      let n = not-true (independent (labelAt b s) (labelAt b t) (b .excess) (h b t s)) (and-right (isLive (markAt b t)) _ (and-right (not (eqb t s)) _ e)) in
-      leb-false (100 * labelAt b s) (100 * labelAt b t + b .excess * h b t s) (rw (independent-is (labelAt b s) (labelAt b t) (b .excess) (h b t s)) at n)
 
 -- the two ways of waiting, on a machine with something out and nothing safe
 module _ (m : Machine) (estimates : List ℕ) where
@@ -57,21 +36,14 @@ module _ (m : Machine) (estimates : List ℕ) where
 
   -- the foremost state is what it says, where something is open
   front-is : anyOpen b ≡ true → Foremost m estimates front
-  unfolding anyOpen foremost
+  unfolding foremost
   front-is e =
-      let (x, l, o) = any-some opens (m .n) e in
-      go x l o (least-is opens (key (m .goal) (m .pull) b) (m .n) (m .n) (omega arith))
-    where
-      opens : ℕ → Bool
-      opens s = isOpen (markAt b s)
-
-      go : (x : ℕ) → x < m .n → opens x ≡ true → IsLeast opens (key (m .goal) (m .pull) b) (m .n) (m .n) front → Foremost m estimates front
-      go x l o (inl (z, f)) = absurd (true≢false (sym o ∙ f x l))
-      go x l o (inr (k, y, f)) = record {
-        state = k;
-        opened = eqb-true (markOf m front) waiting y;
-        smallest = λ u i w. f u i (eq-eqb (markOf m u) waiting w);
-        lowest = λ u i w. least-lowest opens (key (m .goal) (m .pull) b) (m .n) (m .n) (omega arith) (λ z. omega arith) u i (eq-eqb (markOf m u) waiting w);
+      let some = foremost-any (m .goal) (m .pull) b e in
+      record {
+        state = foremost-in (m .goal) (m .pull) b some;
+        opened = foremost-open (m .goal) (m .pull) b some;
+        smallest = λ u i w. least-smallest _ (key (m .goal) (m .pull) b) (m .n) (m .n) u (omega arith) i (eq-eqb (markOf m u) waiting w);
+        lowest = λ u i w. least-lowest _ (key (m .goal) (m .pull) b) (m .n) (m .n) (omega arith) some u i (eq-eqb (markOf m u) waiting w);
       }
 
   -- it isn't safe, so it depends on a first state
@@ -80,7 +52,7 @@ module _ (m : Machine) (estimates : List ℕ) where
     stop = firstDependence b front
 
     stop-in : stop < m .n
-    stop-in = foremost-held (m .goal) (m .pull) b (λ q. omega (arith, q, front-is o .state)) unsafe
+    stop-in = foremost-held (m .goal) (m .pull) b (foremost-any (m .goal) (m .pull) b o) unsafe
 
     stop-depends : dependsOn b front stop ≡ true
     unfolding firstDependence
@@ -89,7 +61,7 @@ module _ (m : Machine) (estimates : List ℕ) where
     held-up : HeldUp m estimates front stop
     unfolding firstDependence
     held-up = record {
-      other = depends-other b front stop stop-depends;
+      other = depends-apart b front stop stop-depends;
       behind = depends-behind b front stop stop-depends;
       lowest = λ x l d a. independent-of b front x d a (first-before (dependsOn b front) (m .n) x l);
     }

@@ -13,7 +13,7 @@ use Rattle.laws.specs.Put.{Put}
 use Rattle.desk.specs.declared.Machine.{Machine}
 use Rattle.desk.specs.declared.Reply.{Reply}
 use Rattle.desk.proofs.Reply.{the-type}
-use Rattle.desk.specs.declared.Reply.the-variants.{Opened, Took, Brought, Found, NoPath, Wait, Read, Refused, Done}
+use Rattle.desk.specs.declared.Reply.the-variants.{Opened, Took, Brought, Found, NoPath, Wait, Read, Refused, Done, Cut}
 use Rattle.desk.specs.Reply.{caseOf, when, found, read}
 use Rattle.desk.specs.Path.{pathOf}
 use Rattle.desk.specs.Calls.{workerOf, call}
@@ -34,6 +34,7 @@ tag-case (Wait s) = refl
 tag-case (Read many) = refl
 tag-case (Refused number) = refl
 tag-case Done = refl
+tag-case (Cut limit) = refl
 
 -- a match that is left with the tags `others` is left with a reply of another case
 pub other-case : (others : List ℕ) (case : ℕ) (r : Reply) → T (not (hasKey others case)) → OneOf others (tagOf the-type r) → eqb (caseOf r) case ≡ false

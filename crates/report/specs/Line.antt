@@ -4,7 +4,7 @@ use Prim.Native.Nat.{ℕ}
 use Prim.Native.String.{String}
 use lib.ListN.{replicate, take}
 use Rattle.desk.specs.declared.Reply.{Reply}
-use Rattle.desk.specs.declared.Reply.the-variants.{Opened, Took, Brought, Found, NoPath, Wait, Read, Refused, Done}
+use Rattle.desk.specs.declared.Reply.the-variants.{Opened, Took, Brought, Found, NoPath, Wait, Read, Refused, Done, Cut}
 use Rattle.desk.specs.declared.Answer.{Answer}
 use Rattle.desk.specs.Reply.{when, found, read}
 use Rattle.desk.specs.Path.{pathOf}
@@ -30,6 +30,7 @@ lineOf worker (Wait s) = line "wait" (worker ∷ s ∷ [])
 lineOf worker (Read many) = []
 lineOf worker (Refused number) = line "refused" (worker ∷ number ∷ [])
 lineOf worker Done = []
+lineOf worker (Cut limit) = []
 
 -- a `path` line with the states that path reading wrote
 abbrev pub pathLine : List ℕ → Reply → List ℕ

@@ -49,6 +49,7 @@ pub fn put_reply(out: &mut [u8], at: usize, worker: u64, reply: Reply) -> usize
         Reply::Read(_) => at,
         Reply::Refused(number) => put_line2(out, at, b"refused", worker, number as u64),
         Reply::Done => at,
+        Reply::Cut(_) => at,
     }
 }
 

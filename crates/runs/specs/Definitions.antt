@@ -12,12 +12,14 @@ use Rattle.checks.specs.Opening.{sizesRight, endsRight, weightsRight, passagesR
 use Rattle.checks.specs.Fits.{marksRight, labelsRight, workersRight, holders, heldOnce}
 use Rattle.dealing.specs.Board.{dependsOn, firstDependence, safe, key, choice, foremost, anyOpen, anyOut, firstMarked}
 use Rattle.dealing.specs.Decision.{waitedFor, decision}
+use Rattle.dealing.specs.Limited.{compared, stopsAt, comparisons, passes, follows, next, others, candidates, tried, fullCount, stoppedBy, limitedDecision, limited}
 use Rattle.trail.specs.Trail.{isHome, isLinked, goBack}
 use Rattle.desk.specs.Fits.{rowsFit, fits}
 use Rattle.desk.specs.Reply.{codeOf}
 use Rattle.desk.specs.Opening.{openedMachine, blankMachine, openingOf}
 use Rattle.desk.specs.Admission.{admitted}
 use Rattle.desk.specs.Take.{takeStep, takeOf}
+use Rattle.desk.specs.Limited.{limitedAnswer, limitedOf}
 use Rattle.desk.specs.Bring.{applyPassage, sweepOf, bringStep, bringOf}
 use Rattle.desk.specs.Path.{pathOf}
 use Rattle.desk.specs.Calls.{answers, replies, after}
@@ -36,5 +38,5 @@ use Rattle.report.specs.Line.{numbers, spoken}
 use Rattle.report.specs.Text.{conversation, session, taskText, printed}
 
 unfoldable pub definitions : Type 0
-unfolding fold first least count all made gathered picked isClear independent holdsBack lowers sizesRight endsRight weightsRight passagesRight estimatesRight passagesBound detoursBy detoursFrom detoursBound earlyFault fault marksRight labelsRight workersRight holders heldOnce dependsOn firstDependence safe key choice foremost anyOpen anyOut firstMarked waitedFor decision isHome isLinked goBack rowsFit fits codeOf openedMachine blankMachine openingOf admitted takeStep takeOf applyPassage sweepOf bringStep bringOf pathOf answers replies after eventsOf eventsRight morningFault morningOf numberAt bytesOf beyond headAt passageAt rowAt callAt recordAt advance scanned filePassages fileEstimates fileCalls roomyFor readOf sizesCarried headCarried endsCarried callsCarried carried headRecord passageRecord rowRecord callRecord fileOf writeOf byte isWord digit digits number isSize widthAt rowsAt headRight mapOf isOpen isClosed rowsRight openAt cells stateOf stateCount countRight free rowTo columnTo linked isPassage leadsTo passage passagesOf passagesMany gap octile between estimatesOf mapFault roomy readMap decimalIn numbers spoken conversation session taskText printed
+unfolding fold first least count all made gathered picked isClear independent holdsBack lowers sizesRight endsRight weightsRight passagesRight estimatesRight passagesBound detoursBy detoursFrom detoursBound earlyFault fault marksRight labelsRight workersRight holders heldOnce dependsOn firstDependence safe key choice foremost anyOpen anyOut firstMarked waitedFor decision compared stopsAt comparisons passes follows next others candidates tried fullCount stoppedBy limitedDecision limited isHome isLinked goBack rowsFit fits codeOf openedMachine blankMachine openingOf admitted takeStep takeOf limitedAnswer limitedOf applyPassage sweepOf bringStep bringOf pathOf answers replies after eventsOf eventsRight morningFault morningOf numberAt bytesOf beyond headAt passageAt rowAt callAt recordAt advance scanned filePassages fileEstimates fileCalls roomyFor readOf sizesCarried headCarried endsCarried callsCarried carried headRecord passageRecord rowRecord callRecord fileOf writeOf byte isWord digit digits number isSize widthAt rowsAt headRight mapOf isOpen isClosed rowsRight openAt cells stateOf stateCount countRight free rowTo columnTo linked isPassage leadsTo passage passagesOf passagesMany gap octile between estimatesOf mapFault roomy readMap decimalIn numbers spoken conversation session taskText printed
 definitions = Unit

@@ -4,6 +4,7 @@ pub mod Tasks
 pub mod Runs
 pub mod Made
 pub mod Steps
+pub mod Limits
 pub mod Refusals
 pub mod Files
 pub mod Sentences

@@ -6,10 +6,13 @@ use Rattle.laws.specs.Part.{overlaid}
 use Rattle.rule.specs.Marks.{none}
 use Rattle.checks.specs.Opening.{Task, task}
 use Rattle.desk.specs.declared.Machine.{Machine}
+use Rattle.desk.specs.declared.Reply.{Reply}
 use Rattle.desk.specs.declared.Answer.{Answer}
+use Rattle.desk.specs.declared.Counted.{Counted}
 use Rattle.desk.specs.Machine.{withMark}
 use Rattle.desk.specs.Opening.{openedMachine}
 use Rattle.desk.specs.Calls.{Event, call}
+use Rattle.desk.specs.Limited.{limitedOf}
 use Rattle.runs.specs.Tasks.{passages, zeros, taskA}
 
 -- a machine of a task with this phase and these first marks, labels, passage numbers and held states; for the rest as opening leaves it
@@ -48,6 +51,13 @@ unfit = withMark midway 4 4
 -- a call on task A
 abbrev pub called : Machine → Event → Answer
 called m e = call passages zeros m e
+
+-- a limited Take on task A, by this worker and with this limit; and what one hands back
+abbrev pub limitedBy : Machine → ℕ → ℕ → Counted
+limitedBy m worker limit = limitedOf m passages zeros worker limit
+
+abbrev pub counted : Machine → Reply → ℕ → Counted
+counted m reply comparisons = record { machine = m; reply = reply; comparisons = comparisons }
 
 -- task A's passages, but the cost of the last, 3→4, is another
 abbrev pub lastCosts : ℕ → List ℕ

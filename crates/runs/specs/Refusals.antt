@@ -9,7 +9,7 @@ use Rattle.checks.specs.Opening.{Task, task, sizesRight}
 use Rattle.dealing.specs.declared.Decision.the-variants.{Stuck}
 use Rattle.desk.specs.declared.Machine.{Machine}
 use Rattle.desk.specs.declared.Reply.{Reply}
-use Rattle.desk.specs.declared.Reply.the-variants.{Opened, Wait, Read, Refused, Done}
+use Rattle.desk.specs.declared.Reply.the-variants.{Opened, Wait, Read, Refused, Done, Cut}
 use Rattle.desk.specs.Machine.{withPhase, withMark, withLabel, withVia, withHands, handsOf}
 use Rattle.desk.specs.Reply.{answer, refused}
 use Rattle.desk.specs.Take.{act}
@@ -18,7 +18,7 @@ use Rattle.desk.specs.Calls.{take, bring, call}
 use Rattle.desk.specs.Morning.{Morning, morningOf}
 use Rattle.runs.specs.Definitions.{definitions}
 use Rattle.runs.specs.Tasks.{passages, zeros, h, taskWith, taskA, opened, refusal}
-use Rattle.runs.specs.Made.{made, midwayIn, midway, arrived, unfit, called, lastCosts, single, pair, triple}
+use Rattle.runs.specs.Made.{made, midwayIn, midway, arrived, unfit, called, limitedBy, counted, lastCosts, single, pair, triple}
 
 -- what worker 1's Take is told: Wait 1 where the machine is `midway`. And where the task's numbers and the lent slices are others.
 abbrev told : Machine → Reply
@@ -91,6 +91,13 @@ pub record Refusals : Type 0 where
   pub bring-order :
       called (withPhase unfit 1) (bring 2) ∷ called (withPhase midway 1) (bring 2) ∷ called (withPhase midway 1) (bring 1) ∷ called midway (bring 1) ∷ [] ≡
       refused (withPhase unfit 1) 8 ∷ refused (withPhase midway 1) 9 ∷ refused (withPhase midway 1) 10 ∷ refused midway 11 ∷ []
+  -- Order 7: of a limited Take the same, with a count of "0 where refused"; worker 1, who isn't refused, makes 1 comparison, of 2 with 1. And with a limit of 0: who is refused isn't Cut.
+  pub limited-order :
+      limitedBy (over unfit) 2 1 ∷ limitedBy (over midway) 2 1 ∷ limitedBy (over midway) 0 1 ∷ limitedBy midway 0 1 ∷ limitedBy midway 1 1 ∷ [] ≡
+      counted (over unfit) (Refused 8) 0 ∷ counted (over midway) (Refused 9) 0 ∷ counted (over midway) (Refused 10) 0 ∷ counted midway (Refused 11) 0 ∷ counted midway (Wait 1) 1 ∷ []
+  pub limited-cut :
+      limitedBy (over unfit) 2 0 ∷ limitedBy (over midway) 2 0 ∷ limitedBy (over midway) 0 0 ∷ limitedBy midway 0 0 ∷ limitedBy midway 1 0 ∷ [] ≡
+      counted (over unfit) (Refused 8) 0 ∷ counted (over midway) (Refused 9) 0 ∷ counted (over midway) (Refused 10) 0 ∷ counted midway (Refused 11) 0 ∷ counted midway (Cut 0) 0 ∷ []
   -- 12 "as in step 4 above", to which no machine comes
   pub take-stuck : act midway (handsOf midway) 1 Stuck ≡ refused midway 12
   -- Fits: "conditions 1 to 4 hold of the machine's numbers and the lent slices". A passage slice of 17 numbers; goal 5 of 5; W 101; a cost of 1,000,001; none of them.
@@ -156,6 +163,8 @@ refusals = record {
   bounds-passage = refl;
   take-order = refl;
   bring-order = refl;
+  limited-order = refl;
+  limited-cut = refl;
   take-stuck = refl;
   fits-task = refl;
   fits-estimates = refl;

@@ -33,6 +33,7 @@ fn say(worker: usize, reply: Reply) {
         Reply::Read(many) => line(b"read ", w, many as u64),
         Reply::Refused(number) => line(b"refused ", w, number as u64),
         Reply::Done => short(b"done ", w),
+        Reply::Cut(limit) => line(b"cut ", w, limit as u64),
     }
 }
 

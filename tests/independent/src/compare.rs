@@ -8,6 +8,7 @@ use crate::maker::{self, Rng};
 use crate::rows::{self, Independent, RowDesk, PHASE, PRINT_ROOM, ROW};
 
 mod files;
+mod limited;
 mod maps;
 
 pub use files::unmet;
@@ -15,7 +16,7 @@ pub use files::unmet;
 /// Runs one case; says what differs or goes against demand 3 or an order.
 pub fn run_case(desks: &mut Desks, seed: u64, case: u64) -> Checked<()> {
     let mut rng = Rng::new(seed, case);
-    match rng.below(112) {
+    match rng.below(118) {
         0..=37 => {
             let task = maker::task(&mut rng);
             search(desks, &mut rng, &task)
@@ -27,7 +28,8 @@ pub fn run_case(desks: &mut Desks, seed: u64, case: u64) -> Checked<()> {
         87..=91 => made_up_mornings(desks, &mut rng),
         92..=99 => maps::map(desks, &mut rng),
         100..=106 => files::written(desks, &mut rng),
-        _ => files::any_file(desks, &mut rng),
+        107..=111 => files::any_file(desks, &mut rng),
+        _ => limited::ranked_otherwise(desks, &mut rng),
     }
 }
 
@@ -39,8 +41,8 @@ fn search(desks: &mut Desks, rng: &mut Rng, task: &Task) -> Checked<()> {
     let eager_percent = rng.between(30, 100);
     let mut calls_left = rng.pick(&[6, 20, 20]) * task.head.n + 10;
     while calls_left > 0 {
-        let (action, worker) = maker::call(rng, &row, eager_percent);
-        let reply = desks.call(action, &mut row, task.graph(), worker)?;
+        let call = maker::call(rng, &row, eager_percent);
+        let reply = limited::call(desks, rng, call, &mut row, task.graph(), true)?;
         watch.see(reply)?;
         if let Reply::Brought(_) = reply {
             watch.see_labels(&row)?;
@@ -115,8 +117,8 @@ fn refused_opening(desks: &mut Desks, rng: &mut Rng) -> Checked<()> {
         return Ok(());
     }
     for _ in 0..2 {
-        let (action, worker) = maker::call(rng, &row, 90);
-        desks.call(action, &mut row, task.graph(), worker)?;
+        let call = maker::call(rng, &row, 90);
+        limited::call(desks, rng, call, &mut row, task.graph(), false)?;
     }
     Ok(())
 }
@@ -129,11 +131,11 @@ fn made_up(desks: &mut Desks, rng: &mut Rng) -> Checked<()> {
         if rng.percent(35) {
             read_path(desks, rng, &row, &task)?;
         } else {
-            let (action, worker) = match row.len() {
+            let call = match row.len() {
                 ROW => maker::call(rng, &row, 80),
                 _ => (rng.pick(&[Action::Take, Action::Bring]), rng.below(3)),
             };
-            desks.call(action, &mut row, task.graph(), worker)?;
+            limited::call(desks, rng, call, &mut row, task.graph(), false)?;
         }
     }
     Ok(())

@@ -7,13 +7,15 @@
 //! And what document 02 asks on any machine: of a Wait (order 1), checked with own
 //! sums, that it names the state that is waited for; of a morning (order 2) that
 //! it leaves what as many single calls to the same desk leave. What order 3 asks
-//! is in `maps`, what order 5 asks in `opening`, what order 6 asks in `files`.
+//! is in `maps`, what order 5 asks in `opening`, what order 6 asks in `files`, what
+//! order 7 asks in `limited`; demand 3 includes the limited Take.
 
 use crate::desk::{is_blocked, Graph, Machine, Reply, Task, MAX_STATES, NONE, OPEN, OUT};
 use crate::morning::Event;
 use crate::rows::{self, RowDesk, Shown, VIAS};
 
 pub mod files;
+pub mod limited;
 pub mod maps;
 pub mod opening;
 
@@ -33,7 +35,7 @@ impl<'a> Watch<'a> {
         }
     }
 
-    /// Takes in a reply of Take or Bring; says what is wrong with it.
+    /// Takes in a reply of Take, limited Take or Bring; says what is wrong with it.
     pub fn see(&mut self, reply: Reply) -> Result<(), String> {
         match reply {
             Reply::Took(state) => self.see_dealt(state as usize),
@@ -120,10 +122,21 @@ impl<'a> Watch<'a> {
 
 /// Checks the state that a Wait on the machine in `row` names.
 pub fn see_wait(row: &[u32], graph: Graph, named: u16) -> Result<(), String> {
+    see_waiting(row, graph, named, &[OPEN, OUT])
+}
+
+/// The same of a limited Take. No open state has a smaller key than the one with the
+/// smallest, so that this one's test compares it with the out states alone.
+pub fn see_limited_wait(row: &[u32], graph: Graph, named: u16) -> Result<(), String> {
+    see_waiting(row, graph, named, &[OUT])
+}
+
+fn see_waiting(row: &[u32], graph: Graph, named: u16, compared: &[u8]) -> Result<(), String> {
     let machine = rows::decode(row).ok_or("Wait on a row that holds no machine")?;
     let waiting = Waiting {
         machine,
         estimates: graph.estimates,
+        compared,
     };
     let named = usize::from(named);
     waiting
@@ -131,16 +144,21 @@ pub fn see_wait(row: &[u32], graph: Graph, named: u16) -> Result<(), String> {
         .map_err(|fault| format!("Wait {named}, {fault}"))
 }
 
-/// A machine that a call was told to wait on, with the lent estimates.
+/// A machine that a call was told to wait on, with the lent estimates, and the marks
+/// of the states that the open state with the smallest key is compared with.
 struct Waiting<'a> {
     machine: Machine,
     estimates: &'a [u32],
+    compared: &'a [u8],
 }
 
 impl Waiting<'_> {
     fn check(&self, named: usize) -> Result<(), String> {
-        if self.marked(&[OPEN, OUT]).all(|s| s != named) {
-            return Err("which is neither open nor out".into());
+        if self.marked(self.compared).all(|s| s != named) {
+            return Err(match self.compared {
+                [OUT] => "which isn't out".into(),
+                _ => "which is neither open nor out".into(),
+            });
         }
         let lowest_out = self.marked(&[OUT]).next().ok_or("but nothing is out")?;
         match self.marked(&[OPEN]).min_by_key(|&s| (self.key(s), s)) {
@@ -159,7 +177,7 @@ impl Waiting<'_> {
         if !self.depends(smallest, named) {
             return Err(format!("but {smallest} does not depend on it"));
         }
-        let mut lower = self.marked(&[OPEN, OUT]).take_while(|&s| s < named);
+        let mut lower = self.marked(self.compared).take_while(|&s| s < named);
         match lower.find(|&s| self.depends(smallest, s)) {
             Some(lower) => Err(format!("but {smallest} depends on {lower}")),
             None => Ok(()),

@@ -1,7 +1,11 @@
 //! The independent desk: task, machine, opening, Take, Bring and path reading,
-//! written straight from document 01 and orders 1, 4 and 5 of document 02.
+//! written straight from document 01 and orders 1, 4, 5 and 7 of document 02.
 
 use crate::triangles::{self, Sweep};
+
+mod limited;
+
+pub use limited::Limited;
 
 pub const MAX_STATES: usize = 256;
 pub const MAX_WORKERS: usize = 32;
@@ -44,6 +48,8 @@ pub enum Reply {
     Refused(u32),
     /// A morning's events were served.
     Done,
+    /// A limited Take would have made more comparisons than this limit.
+    Cut(u32),
 }
 
 /// The numbers of a task beside its lent slices.
@@ -292,13 +298,15 @@ impl Machine {
     /// The lowest of `live` that `state` depends on. It may be one of them: each
     /// state is independent of itself, since 0 <= E * h.
     fn first_dependence(&self, graph: Graph, live: &[u16], state: usize) -> Option<u16> {
-        let label = i64::from(self.labels[state]);
-        let excess = self.head.excess as i64;
-        live.iter().copied().find(|&t| {
-            let t = usize::from(t);
-            let h = i64::from(graph.estimates[t * self.head.n + state]);
-            100 * (label - i64::from(self.labels[t])) > excess * h
-        })
+        let mut others = live.iter().copied();
+        others.find(|&t| !self.is_independent(graph, state, t.into()))
+    }
+
+    /// 100 * (label s - label t) <= E * h(t,s); the left side may be negative.
+    fn is_independent(&self, graph: Graph, s: usize, t: usize) -> bool {
+        let [label_s, label_t] = [s, t].map(|state| i64::from(self.labels[state]));
+        let h = i64::from(graph.estimates[t * self.head.n + s]);
+        100 * (label_s - label_t) <= self.head.excess as i64 * h
     }
 
     fn key(&self, graph: Graph, state: usize) -> u64 {

@@ -1,8 +1,8 @@
 //! Both desks, called alike: every reply, every number handed back, every place
 //! of every lent slice and the printed text are compared. Every Wait is held
 //! against order 1 of document 02, every morning against order 2, every opening
-//! against order 5 and every file against order 6; without a library only that is
-//! done.
+//! against order 5, every file against order 6 and every limited Take against order
+//! 7; without a library only that is done.
 
 use crate::demand::{self, Morning};
 use crate::desk::{Action, Graph, Reply, Task};
@@ -12,6 +12,7 @@ use crate::tally::Tally;
 use std::fmt::Debug;
 
 pub mod files;
+mod limited;
 
 pub use files::slices;
 

@@ -1,7 +1,8 @@
-//! An independent route desk, written from document 01 and orders 1 to 6 of
+//! An independent route desk, written from document 01 and orders 1 to 7 of
 //! document 02 alone, and what compares the proved desk with it.
 //!
-//! - `desk`: the task, the machine, opening, Take, Bring and path reading.
+//! - `desk`: the task, the machine, opening, Take, limited Take, Bring and path
+//!   reading.
 //! - `triangles`: opening's check 7, with and without order 5.
 //! - `morning`: the events of a list that one call serves.
 //! - `map`: the reader of grid maps and the task that a map comes to.
@@ -10,7 +11,8 @@
 //! - `library`: the proved desk behind that interface (the only unsafe code).
 //! - `maker`: random tasks, machines, calls, buffers and files, from a seed.
 //! - `demand`: what demand 3 asks of a run, checked with an own Dijkstra, and
-//!   what the orders ask of a Wait and of a morning.
+//!   what the orders ask of a Wait, a morning, a map, an opening, a file and a
+//!   limited Take.
 //! - `compare`: one case of the comparison.
 //! - `desks`: both desks, called alike.
 //! - `samples`: the sample maps and task files.

@@ -31,6 +31,17 @@ extern "C" {
         worker: usize,
     ) -> u64;
 
+    fn desk_take_limited(
+        machine: *mut u32,
+        machine_len: usize,
+        passages: *const u32,
+        passages_len: usize,
+        estimates: *const u32,
+        estimates_len: usize,
+        worker: usize,
+        limit: usize,
+    ) -> u64;
+
     fn desk_bring(
         machine: *mut u32,
         machine_len: usize,
@@ -148,6 +159,22 @@ impl RowDesk for Library {
                 graph.estimates.as_ptr(),
                 graph.estimates.len(),
                 worker,
+            )
+        }
+    }
+
+    fn take_limited(&self, row: &mut [u32], graph: Graph, worker: usize, limit: usize) -> u64 {
+        // SAFETY: each pointer goes with the length of the slice it comes from.
+        unsafe {
+            desk_take_limited(
+                row.as_mut_ptr(),
+                row.len(),
+                graph.passages.as_ptr(),
+                graph.passages.len(),
+                graph.estimates.as_ptr(),
+                graph.estimates.len(),
+                worker,
+                limit,
             )
         }
     }

@@ -215,7 +215,7 @@ pub fn broken_task(rng: &mut Rng) -> Task {
 }
 
 fn break_sizes(rng: &mut Rng, task: &mut Task) {
-    let huge = rng.pick(&[1 << 32, (1 << 32) + task.head.n, 1 << 63, usize::MAX]);
+    let huge = rng.pick(&[1 << 32, 1 << 32 | task.head.n, 1 << 63, usize::MAX]);
     match rng.below(8) {
         0 => task.head.n = rng.pick(&[0, 257, 65_536, huge]),
         1 => task.head.k = rng.pick(&[0, 33, 256, huge]),
@@ -245,7 +245,7 @@ fn widen_weight(rng: &mut Rng, head: &mut Head) {
         true => &mut head.pull,
         false => &mut head.excess,
     };
-    let looks_good = *weight + (1 << rng.pick(&[16, 17, 31, 32, 48, 63]));
+    let looks_good = *weight | 1 << rng.pick(&[16, 17, 31, 32, 48, 63]);
     *weight = rng.pick(&[
         65_535,
         65_536,
@@ -371,6 +371,23 @@ fn bad_worker(rng: &mut Rng, k: usize, good: usize) -> usize {
     rng.pick(&[k, k + 1, 31, 32, 255, usize::MAX, looks_good, looks_good])
 }
 
+/// A limit for a Take that makes this many comparisons: just enough of it, one more or
+/// fewer, any; also such as would be too low, were they cut to 32 bits.
+pub fn limit(rng: &mut Rng, count: usize) -> usize {
+    let lower = rng.below(count.max(1));
+    match rng.below(12) {
+        0 => count.saturating_sub(1),
+        1 => lower,
+        2..=4 => count,
+        5 | 6 => count + 1,
+        7 => rng.below(300),
+        8 => rng.pick(&[0, 1, 65_279, 65_280, 65_536]),
+        9 => lower + (1 << rng.pick(&[24, 32, 63])),
+        10 => usize::MAX - lower,
+        _ => usize::MAX,
+    }
+}
+
 /// Calls by workers up to `highest`, chosen while the independent desk answers
 /// them on the machine in a row; the row may also hold none.
 fn calls_on(
@@ -443,6 +460,18 @@ pub fn made_up(rng: &mut Rng) -> (Task, Vec<u32>) {
     if rng.percent(8) {
         damage_slices(rng, &mut task);
     }
+    (task, row)
+}
+
+/// A small task and a machine that a limited Take mostly answers otherwise than Take:
+/// what the state with the smallest key depends on may have a greater one.
+pub fn ranked_otherwise(rng: &mut Rng) -> (Task, Vec<u32>) {
+    let n = rng.between(3, 12);
+    let mut task = task_of(rng, n);
+    task.head.k = rng.between(2, 8);
+    task.head.pull = rng.between(1, task.head.excess);
+    let mut row = made_up_row(rng, &task);
+    hold_back(rng, &mut task, &mut row);
     (task, row)
 }
 

@@ -4,7 +4,7 @@
 //! `Independent` puts the independent desk behind it, so that comparison and bench
 //! treat both desks alike.
 
-use crate::desk::{Action, Graph, Head, Machine, Reply, Task, MAX_STATES, MAX_WORKERS};
+use crate::desk::{Action, Graph, Head, Limited, Machine, Reply, Task, MAX_STATES, MAX_WORKERS};
 use crate::map::{Cell, Map};
 use crate::morning;
 use crate::taskfile::{self, Fault, Lent};
@@ -31,6 +31,8 @@ pub trait RowDesk {
     fn take(&self, row: &mut [u32], graph: Graph, worker: usize) -> u64;
     fn bring(&self, row: &mut [u32], graph: Graph, worker: usize) -> u64;
     fn path(&self, row: &[u32], graph: Graph, buffer: &mut [u16], at: usize) -> u64;
+    /// A limited Take: its comparisons * 2^40 + its reply's code.
+    fn take_limited(&self, row: &mut [u32], graph: Graph, worker: usize, limit: usize) -> u64;
     /// Serves events by number; their replies go to the front of `replies`.
     fn morning(&self, row: &mut [u32], graph: Graph, events: &[u32], replies: &mut [u64]) -> u64;
     /// Reads a map into the fronts of the slices: cells * 2^32 + passages, or the
@@ -68,6 +70,7 @@ pub fn code(reply: Reply) -> u64 {
         Reply::Read(count) => (6, count),
         Reply::Refused(number) => (7, number),
         Reply::Done => (8, 0),
+        Reply::Cut(limit) => (9, limit),
     };
     case << 32 | u64::from(value)
 }
@@ -85,7 +88,29 @@ pub fn reply(code: u64) -> Option<Reply> {
         (6, _) => Some(Reply::Read(value)),
         (7, _) => Some(Reply::Refused(value)),
         (8, 0) => Some(Reply::Done),
+        (9, _) => Some(Reply::Cut(value)),
         _ => None,
+    }
+}
+
+/// The code of a limited Take's reply and comparisons.
+pub fn limited_code(limited: Limited) -> u64 {
+    (limited.comparisons as u64) << 40 | code(limited.reply)
+}
+
+/// The reply and comparisons of a limited Take's code, if it is one.
+pub fn limited(code: u64) -> Option<Limited> {
+    Some(Limited {
+        comparisons: (code >> 40) as usize,
+        reply: reply(code & ((1 << 40) - 1))?,
+    })
+}
+
+/// A limited Take's code as it is shown in reports.
+pub fn show_limited(code: u64) -> String {
+    match limited(code) {
+        Some(limited) => format!("{:?} after {}", limited.reply, limited.comparisons),
+        None => format!("code {code:#x}"),
     }
 }
 
@@ -140,14 +165,15 @@ pub fn show_read(number: u64) -> String {
     }
 }
 
-/// A code as it is shown in reports.
+/// A code as it is shown in reports, a limited Take's too.
 pub struct Shown(pub u64);
 
 impl fmt::Display for Shown {
     fn fmt(&self, f: &mut fmt::Formatter) -> fmt::Result {
-        match reply(self.0) {
-            Some(reply) => write!(f, "{reply:?}"),
-            None => write!(f, "code {:#x}", self.0),
+        match (reply(self.0), limited(self.0)) {
+            (Some(reply), _) => write!(f, "{reply:?}"),
+            (None, Some(_)) => f.write_str(&show_limited(self.0)),
+            (None, None) => write!(f, "code {:#x}", self.0),
         }
     }
 }
@@ -251,6 +277,16 @@ impl RowDesk for Independent {
 
     fn bring(&self, row: &mut [u32], graph: Graph, worker: usize) -> u64 {
         Independent::on_row(row, |machine| machine.bring(graph, worker))
+    }
+
+    fn take_limited(&self, row: &mut [u32], graph: Graph, worker: usize, limit: usize) -> u64 {
+        let mut comparisons = 0;
+        let code = Independent::on_row(row, |machine| {
+            let limited = machine.take_limited(graph, worker, limit);
+            comparisons = limited.comparisons as u64;
+            limited.reply
+        });
+        comparisons << 40 | code
     }
 
     fn path(&self, row: &[u32], graph: Graph, buffer: &mut [u16], at: usize) -> u64 {

@@ -9,6 +9,7 @@ use crate::rows::{self, RowDesk, Shown, PRINT_ROOM, ROW};
 
 mod blocked;
 mod files;
+mod limited;
 mod maps;
 mod morning;
 mod opening;
@@ -54,6 +55,7 @@ pub fn all() -> impl Iterator<Item = &'static Run> {
         blocked::RUNS,
         opening::RUNS,
         files::RUNS,
+        limited::RUNS,
     ]
     .into_iter()
     .flatten()

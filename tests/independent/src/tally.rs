@@ -23,6 +23,7 @@ impl Tally {
             Reply::Read(_) => ("read", 0),
             Reply::Refused(number) => ("refused", number),
             Reply::Done => ("done", 0),
+            Reply::Cut(_) => ("cut", 0),
         };
         self.add(call, word, number);
     }

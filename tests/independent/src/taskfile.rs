@@ -244,7 +244,7 @@ fn print_reply(text: &mut String, worker: usize, reply: Reply) {
         Reply::NoPath => writeln!(text, "nopath {worker}"),
         Reply::Wait(state) => writeln!(text, "wait {worker} {state}"),
         Reply::Refused(number) => writeln!(text, "refused {worker} {number}"),
-        Reply::Opened | Reply::Read(_) | Reply::Done => {
+        Reply::Opened | Reply::Read(_) | Reply::Done | Reply::Cut(_) => {
             unreachable!("no answer to Take or Bring")
         }
     }

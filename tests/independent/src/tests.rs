@@ -17,6 +17,7 @@ use crate::taskfile::{self, Fault, Lent, MAX_FILE};
 
 mod blocked;
 mod files;
+mod limited;
 mod map;
 mod morning;
 mod opening;
@@ -49,6 +50,9 @@ fn runs_of_the_orders_can_fail() {
     let wrongs = [
         Wrong {
             open: |_, reply| reply ^ 1,
+            limited: |row, graph, worker, limit| {
+                Independent.take_limited(row, graph, worker, limit) ^ 1 << 40
+            },
             file_write: |_, number| number ^ 1 << 32,
             file_read: |_, number| number ^ 1 << 32,
             ..RIGHT
@@ -477,6 +481,7 @@ fn codes_and_replies_go_both_ways() {
         Reply::Read(9),
         Reply::Refused(12),
         Reply::Done,
+        Reply::Cut(9),
     ];
     for (case, reply) in replies.into_iter().enumerate() {
         assert_eq!(rows::code(reply) >> 32, case as u64);
@@ -485,7 +490,7 @@ fn codes_and_replies_go_both_ways() {
     assert_eq!(rows::reply(4 << 32 | 1), None);
     assert_eq!(rows::reply(5 << 32 | 65_536), None);
     assert_eq!(rows::reply(8 << 32 | 1), None);
-    assert_eq!(rows::reply(9 << 32), None);
+    assert_eq!(rows::reply(10 << 32), None);
 }
 
 // ---- Task files ----
@@ -634,6 +639,8 @@ struct Wrong {
     /// With the task.
     open: fn(&Task, u64) -> u64,
     take: fn(&mut [u32], u64) -> u64,
+    /// All of the call.
+    limited: fn(&mut [u32], Graph, usize, usize) -> u64,
     /// With the machine's row, the events and the row of replies.
     morning: fn(&mut [u32], &[u32], &mut [u64], u64) -> u64,
     /// With the slices of passages and estimates.
@@ -656,6 +663,7 @@ struct Wrong {
 const RIGHT: Wrong = Wrong {
     open: |_, reply| reply,
     take: |_, reply| reply,
+    limited: |row, graph, worker, limit| Independent.take_limited(row, graph, worker, limit),
     morning: |_, _, _, reply| reply,
     map: |_, _, counts| counts,
     map_spot: |spot| spot,
@@ -696,6 +704,10 @@ impl RowDesk for Wrong {
         let passages = self.passages(graph.passages);
         let reply = Independent.take(row, with_passages(graph, &passages), worker);
         (self.take)(row, reply)
+    }
+    fn take_limited(&self, row: &mut [u32], graph: Graph, worker: usize, limit: usize) -> u64 {
+        let passages = self.passages(graph.passages);
+        (self.limited)(row, with_passages(graph, &passages), worker, limit)
     }
     fn bring(&self, row: &mut [u32], graph: Graph, worker: usize) -> u64 {
         let passages = self.passages(graph.passages);
@@ -789,6 +801,7 @@ fn cases_meet_everything() {
     for (call, words) in [
         ("open", ["opened"].as_slice()),
         ("take", &["took", "found", "nopath", "wait"]),
+        ("limited", &["took", "found", "nopath", "wait", "cut"]),
         ("bring", &["brought"]),
         ("path", &["read"]),
         ("morning", &["done"]),
@@ -805,6 +818,7 @@ fn cases_meet_everything() {
     met("open", "refused", &[1, 2, 3, 4, 5, 6, 7, 8]);
     met("open-wide", "refused", &[1, 2, 3]);
     met("take", "refused", &[8, 9, 10, 11]);
+    met("limited", "refused", &[8, 9, 10, 11]);
     met("bring", "refused", &[8, 9, 10, 11]);
     met("path", "refused", &[8, 13, 14, 15]);
     met("morning", "refused", &[8, 16, 18]);

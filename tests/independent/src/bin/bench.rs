@@ -1,12 +1,14 @@
 //! `bench`: times the proved desk against the independent one, on the same
 //! inputs, in one process, in turns; the least time of many repetitions. Then
 //! mornings against as many single calls to the same desk, openings against one
-//! with a plain sweep, and how whole searches grow with states, passages and workers.
+//! with a plain sweep, limited Takes against Takes of the same desk, and how whole
+//! searches grow with states, passages and workers.
 //!
 //! ```text
 //! bench                                     all tables
 //! bench growth                              the lines with `growth` in their name
 //! bench opening --counts                    of these the exact counts alone
+//! bench comparisons --counts                likewise
 //! bench --list                              the names
 //! bench --once NAME --side library --times 100
 //! ```
@@ -39,6 +41,8 @@ use table::{Line, Table};
 use timing::{black_box, Comparison, Go, Side};
 use workloads::WORKLOADS;
 
+#[path = "bench/comparisons.rs"]
+mod comparisons;
 #[path = "bench/counts.rs"]
 mod counts;
 #[path = "bench/growth.rs"]
@@ -73,6 +77,7 @@ fn print_tables(part: &str) -> Checked<()> {
     ];
     if TIMED {
         tables.extend(opening_tables(part)?);
+        tables.push(comparisons_table(part)?);
     }
     let counted: usize = counts.iter().map(|counts| counts.lines.len()).sum();
     let count: usize = tables.iter().map(|table| table.lines.len()).sum();
@@ -104,8 +109,8 @@ fn no_line(part: &str) -> String {
     format!("no line has {part} in its name, see --list")
 }
 
-fn counts_tables(part: &str) -> Checked<[Counts; 1]> {
-    Ok([opening::counts(part)?])
+fn counts_tables(part: &str) -> Checked<[Counts; 2]> {
+    Ok([opening::counts(part)?, comparisons::counts(part)?])
 }
 
 /// The library against the independent desk.
@@ -133,13 +138,17 @@ fn desks_table(part: &str) -> Checked<Table> {
     })
 }
 
-/// The mornings of the library, or of the independent desk where there is none,
-/// against as many single calls to it.
-fn mornings_table(part: &str) -> Checked<Table> {
-    let (title, desk): (_, &dyn RowDesk) = match independent::library() {
+/// The library, or the independent desk where there is none, held against itself.
+fn alone() -> (&'static str, &'static dyn RowDesk) {
+    match independent::library() {
         Some(library) => ("name (library alone)", library),
         None => ("name (independent alone)", &Independent),
-    };
+    }
+}
+
+/// The mornings of one desk against as many single calls to it.
+fn mornings_table(part: &str) -> Checked<Table> {
+    let (title, desk) = alone();
     let side = |go| Side { go, desk };
     let lines = MORNINGS.iter().filter(|m| m.name.contains(part)).map(|m| {
         let list = m.list()?;
@@ -189,6 +198,29 @@ fn opening_line(opening: &Opening, desk: &'static dyn RowDesk) -> Checked<Line> 
         comparison: Comparison::new(Some(first), second),
         parts: 1,
         counts: vec![],
+    })
+}
+
+/// The limited Takes of one desk against its Takes, with the comparisons of both.
+fn comparisons_table(part: &str) -> Checked<Table> {
+    let (title, desk) = alone();
+    let side = |go| Side { go, desk };
+    let timed = comparisons::timed().into_iter();
+    let lines = timed
+        .filter(|timed| timed.name().contains(part))
+        .map(|timed| {
+            Ok(Line {
+                name: timed.name(),
+                counts: timed.comparisons(desk)?.into(),
+                comparison: Comparison::new(Some(side(timed.limited())), side(timed.take())),
+                parts: 1,
+            })
+        });
+    Ok(Table {
+        titles: [title, "limited ns", "Take ns"],
+        counts: &["Take", "limited"],
+        noise: "Take against itself",
+        lines: lines.collect::<Checked<_>>()?,
     })
 }
 
@@ -266,6 +298,7 @@ fn names() -> Vec<String> {
     workloads
         .chain(mornings)
         .chain(openings)
+        .chain(comparisons::names())
         .chain(sizes)
         .collect()
 }
@@ -295,8 +328,11 @@ fn go_of(name: &str) -> Checked<Go> {
     if let Some(opening) = openings().find(|opening| opening.name() == name) {
         return opening.go();
     }
+    if let Some(timed) = comparisons::timed().iter().find(|t| t.name() == name) {
+        return Ok(timed.limited());
+    }
     match growth::sizes().iter().find(|size| size.name() == name) {
         Some(size) => Ok(size.search()?.go()),
-        None => Err(format!("no line {name}, see --list")),
+        None => Err(format!("no line {name} that is timed, see --list")),
     }
 }

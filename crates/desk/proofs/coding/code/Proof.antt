@@ -68,6 +68,15 @@ add-result-6 c = search needs
 enum-told-3 : tie.Need-enum-told-3
 enum-told-3 c = search needs
 
+enum-known-reply-7 : tie.Need-enum-known-reply-7
+enum-known-reply-7 c = search needs
+
+cast-result-7 : tie.Need-cast-result-7
+cast-result-7 c = search needs
+
+add-result-7 : tie.Need-add-result-7
+add-result-7 c = search needs
+
 returns : tie.Need-returns
 unfolding codeOf
 returns c = ap codeOf (sym (c .enum-told .given .1))
@@ -104,6 +113,10 @@ returns-9 : tie.Need-returns-9
 unfolding codeOf
 returns-9 c = ap codeOf (sym (c .enum-told3 .given .1))
 
+returns-10 : tie.Need-returns-10
+unfolding codeOf
+returns-10 c = ap codeOf (sym (c .before .reply7 .given .1))
+
 pub code-spec : {M : Type 1} → statement M
 code-spec =
     tie.close
@@ -129,6 +142,9 @@ code-spec =
     cast-result-6
     add-result-6
     enum-told-3
+    enum-known-reply-7
+    cast-result-7
+    add-result-7
     returns
     returns-2
     returns-3
@@ -137,4 +153,5 @@ code-spec =
     returns-6
     returns-7
     returns-8
-    returns-9)
+    returns-9
+    returns-10)

@@ -16,7 +16,7 @@ use Rattle.deskc.proofs.row.put_taken.Tie as tie
 
 -- the cases that change nothing
 abbrev others : List ℕ
-others = 0 ∷ 2 ∷ 5 ∷ 6 ∷ 7 ∷ 8 ∷ []
+others = 0 ∷ 2 ∷ 5 ∷ 6 ∷ 7 ∷ 8 ∷ 9 ∷ []
 
 -- the state that is dealt, and the worker that it is dealt to, have places in the row
 dealt-in : (c : tie.After-known-told) → (c .before .reply .given .0 .0 < 256) × (c .before .before .before .before .args .worker < 32)

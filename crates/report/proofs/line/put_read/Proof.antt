@@ -44,7 +44,7 @@ returns c =
 returns-2 : tie.Need-returns-2
 returns-2 c =
     let s = c .before .before in
-    rw (other-case (0 ∷ 1 ∷ 2 ∷ 3 ∷ 4 ∷ 5 ∷ 7 ∷ 8 ∷ []) 6 (s .args .reply) tt (c .match .keys2)) (put-none _ _, search needs)
+    rw (other-case (0 ∷ 1 ∷ 2 ∷ 3 ∷ 4 ∷ 5 ∷ 7 ∷ 8 ∷ 9 ∷ []) 6 (s .args .reply) tt (c .match .keys2)) (put-none _ _, search needs)
 
 pub put-read-spec : {M : Type 1} → statement M
 put-read-spec =

@@ -1,4 +1,4 @@
--- Each variant of the reply has its line, and the three without one leave the buffer as it was.
+-- Each variant of the reply has its line, and the four without one leave the buffer as it was.
 use Rattle.laws.specs.Put.{put-none}
 use borrow.Author.Needs.{needs}
 use Rattle.report.proofs.line.put_reply.Statement.{statement}
@@ -82,6 +82,9 @@ put-line2-requires-5 c κs = search needs
 enum-told-4 : tie.Need-enum-told-4
 enum-told-4 c = search needs
 
+enum-told-5 : tie.Need-enum-told-5
+enum-told-5 c = search needs
+
 returns : tie.Need-returns
 returns c = rw (c .enum-told .given .1) (put-none _ _, search needs)
 
@@ -127,6 +130,9 @@ returns-8 c = rw (c .before .before .before .before .before .before .reply5 .giv
 returns-9 : tie.Need-returns-9
 returns-9 c = rw (c .enum-told4 .given .1) (put-none _ _, search needs)
 
+returns-10 : tie.Need-returns-10
+returns-10 c = rw (c .enum-told5 .given .1) (put-none _ _, search needs)
+
 pub put-reply-spec : {M : Type 1} → statement M
 put-reply-spec =
     tie.close
@@ -157,6 +163,7 @@ put-reply-spec =
     cast-put-line2-5
     put-line2-requires-5
     enum-told-4
+    enum-told-5
     returns
     same-length
     returns-2
@@ -171,4 +178,5 @@ put-reply-spec =
     returns-7
     same-length-6
     returns-8
-    returns-9)
+    returns-9
+    returns-10)

@@ -12,7 +12,7 @@ returns : tie.Need-returns
 returns c = rw (c .before .reply .given .1)
 
 returns-2 : tie.Need-returns-2
-returns-2 c = rw (other-case (0 ∷ 1 ∷ 2 ∷ 3 ∷ 4 ∷ 5 ∷ 6 ∷ 8 ∷ []) 7 (c .before .args .reply) tt (c .match .keys2))
+returns-2 c = rw (other-case (0 ∷ 1 ∷ 2 ∷ 3 ∷ 4 ∷ 5 ∷ 6 ∷ 8 ∷ 9 ∷ []) 7 (c .before .args .reply) tt (c .match .keys2))
 
 pub refusal-of-spec : {M : Type 1} → statement M
 refusal-of-spec = tie.close (tie.spec enum-known-reply returns returns-2)

@@ -21,7 +21,7 @@ returns c = rw (c .before .before .before .before .enum-told .given .1) (c .befo
 
 returns-2 : tie.Need-returns-2
 returns-2 c =
-    rw (other-case (0 ∷ 1 ∷ 2 ∷ 4 ∷ 5 ∷ 6 ∷ 7 ∷ 8 ∷ []) 3 (c .before .before .before .before .args .reply) tt (c .match .keys2)) (put-none _ _, search needs)
+    rw (other-case (0 ∷ 1 ∷ 2 ∷ 4 ∷ 5 ∷ 6 ∷ 7 ∷ 8 ∷ 9 ∷ []) 3 (c .before .before .before .before .args .reply) tt (c .match .keys2)) (put-none _ _, search needs)
 
 pub put-after-spec : {M : Type 1} → statement M
 put-after-spec = tie.close (tie.spec enum-told put-path-requires same-length returns returns-2)

@@ -43,7 +43,7 @@ impl Size {
     /// as the others, to the cells nearest to it, in turn. The estimates are those
     /// of order 3; passages cost two to three times as much, so that nearly every
     /// state is dealt, and those a few cells apart at the same time.
-    fn task(&self) -> Checked<Task> {
+    pub fn task(&self) -> Checked<Task> {
         let Size { n, passages, k } = *self;
         // n is a power of two; the grid is a square, or two side by side
         let width = 1 << ((n.trailing_zeros() + 1) / 2);
@@ -119,7 +119,7 @@ fn nearest(row: &[u32]) -> Vec<usize> {
 }
 
 /// The calls of a round.
-fn round(k: usize) -> impl Iterator<Item = (Action, usize)> {
+pub fn round(k: usize) -> impl Iterator<Item = (Action, usize)> {
     (0..k).flat_map(|worker| [(Action::Bring, worker), (Action::Take, worker)])
 }
 

@@ -90,6 +90,7 @@ impl Opening {
             name: self.name(),
             before: triangles::plain(self.n, &estimates).triples,
             after: triangles::passing_over(self.n, &estimates).triples,
+            calls: None,
         })
     }
 
