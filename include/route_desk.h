@@ -7,12 +7,15 @@
  *     [263 .. 518]  for each state a label
  *     [519 .. 774]  for each state the number of the passage that the label came by; DESK_NONE: none
  *     [775 .. 806]  for each worker the state that it holds; DESK_NONE: nothing
+ *     [807 .. 1318] for each state its key, 100 * label + W * h(state, goal); 0 where the state is unseen. A key has 64
+ *                   bits and takes two places, its low half first: DESK_KEY reads it
  *
  * A task's passages are three numbers each (from, to, cost); its estimates are n x n numbers, h(a,b) at a * n + b.
  * Cost DESK_BLOCKED marks a blocked passage, which keeps its number but is no part of any route.
  *
  * Lend the same passages and estimates at every call on a machine. No call compares them with those that desk_open was
  * given: with one cost changed in between nothing refuses, and the path found need no longer be within E of the best.
+ * (An estimate to the goal that was changed may be seen: the stored key of a state no longer fits it, and 8 comes.)
  *
  * Replies. Every call on a machine returns its reply's case times 2^32, plus the number that the reply carries: read
  * them with DESK_CASE and DESK_VALUE. desk_take_limited adds the comparisons that it made, times 2^40: read them with
@@ -30,8 +33,8 @@
  *     7  h(a,c) above h(a,b) + h(b,c)
  *     8  the row holds no machine: its length isn't DESK_ROW, or a number is too large for its field (W, E, passage
  *        numbers and held states above 65535, marks and phase above 255); or machine and slices don't fit: one of 1 to
- *        4 applies to them, a mark isn't 0 to 3, the phase isn't 0 to 2, a label is above 255000000, a worker holds a
- *        state that isn't out, or an out state hasn't exactly one holder
+ *        4 applies to them, a key of a state below n isn't as above, a mark isn't 0 to 3, the phase isn't 0 to 2,
+ *        a label is above 255000000, a worker holds a state that isn't out, or an out state hasn't exactly one holder
  *     9  worker not below k
  *    10  the phase isn't 0
  *    11  Take: the worker holds a state already; Bring: it holds none
@@ -68,15 +71,15 @@
 extern "C" {
 #endif
 
-#define DESK_ROW 807             /* numbers of a machine's row */
+#define DESK_ROW 1319            /* numbers of a machine's row */
 #define DESK_NONE 65535u         /* no passage; holds nothing */
 #define DESK_BLOCKED 4294967295u /* the cost of a blocked passage */
 
 #define DESK_STACK_OPEN 16384
 #define DESK_STACK_TAKE 24576 /* desk_take, desk_take_limited */
-#define DESK_STACK_BRING 24576
+#define DESK_STACK_BRING 32768
 #define DESK_STACK_MORNING 32768
-#define DESK_STACK_PATH 16384
+#define DESK_STACK_PATH 24576
 #define DESK_STACK_MAP 8192 /* desk_map, desk_map_spot, desk_map_state */
 #define DESK_STACK_PRINT 131072
 #define DESK_STACK_FILE 1024 /* desk_file_read, desk_file_write */
@@ -99,6 +102,11 @@ enum {
 #define DESK_VALUE(reply) ((uint32_t)(reply))
 #define DESK_COMPARISONS(reply) ((uint32_t)((reply) >> 40)) /* 0 where another call replied */
 
+/* The key of a state, 0 to 255, in a machine's row, and the place of its low half; the high half stands behind it. */
+#define DESK_KEY_PLACE(state) (807 + 2 * (size_t)(state))
+#define DESK_KEY(machine, state) \
+    ((uint64_t)(machine)[DESK_KEY_PLACE(state)] | (uint64_t)(machine)[DESK_KEY_PLACE(state) + 1] << 32)
+
 /* Opens a task: the machine's row is written whole. Opened, or refused with 8 (the row's length), then 1 to 7. */
 uint64_t desk_open(size_t n, size_t k, size_t start, size_t goal, size_t w, size_t e,
                    const uint32_t *passages, size_t passages_len,
@@ -111,10 +119,10 @@ uint64_t desk_take(uint32_t *machine, size_t machine_len,
                    const uint32_t *estimates, size_t estimates_len, size_t worker);
 
 /* A worker asks for a state, which is chosen with fewer comparisons: an open state is compared only with states that
- * are out or have a smaller key (100 * label + W * h to the goal). Took, Found, NoPath, Wait, Cut, or refused with 8 to
- * 11. DESK_COMPARISONS says how many comparisons were made; 0 where it was refused. Where more than `limit` would be,
- * the reply is Cut with the limit, so many were made, and the row is as it was. No machine takes more than
- * DESK_MOST_COMPARISONS: a limit that large, or larger, never cuts.
+ * are out or have a smaller key. Took, Found, NoPath, Wait, Cut, or refused with 8 to 11. DESK_COMPARISONS says how
+ * many comparisons were made; 0 where it was refused. Where more than `limit` would be, the reply is Cut with the
+ * limit, so many were made, and the row is as it was. No machine takes more than DESK_MOST_COMPARISONS: a limit that
+ * large, or larger, never cuts.
  * On a task that desk_open accepted, and a row that desk_open and calls with the same slices led to, every reply but
  * Cut is desk_take's, and so is the row. */
 #define DESK_MOST_COMPARISONS 65280

@@ -1,6 +1,6 @@
 /* The route desk called from C and C++: run A1 of the scope document, made singly, as a morning, by limited Takes and
- * from a task file, with its path; the refusals that numbers, lengths and pointers of a caller lead to; and that a
- * refused call writes nothing.
+ * from a task file, with its path; the keys that a row stores; the refusals that numbers, lengths and pointers of a
+ * caller lead to; and that a refused call writes nothing.
  * Prints how many checks passed, or the first that did not. */
 #include <stdio.h>
 #include <stdlib.h>
@@ -162,6 +162,96 @@ static void read_paths(const uint32_t *found) {
     CHECK(memcmp(buffer, written, sizeof buffer) == 0);
 }
 
+/* ---- Keys ---- */
+
+/* Task B: 1 from each state to each other, and E 300. With W 100 each key is 100 above that of the label, but the
+ * goal's. */
+static const uint32_t apart[25] = {0, 1, 1, 1, 1, 1, 0, 1, 1, 1, 1, 1, 0, 1, 1, 1, 1, 1, 0, 1, 1, 1, 1, 1, 0};
+
+static int has_keys(const uint32_t *row, uint64_t a, uint64_t b, uint64_t c, uint64_t d, uint64_t e) {
+    for (size_t s = 5; s < 256; s++) {
+        if (DESK_KEY(row, s) != 0) {
+            return 0;
+        }
+    }
+    return DESK_KEY(row, 0) == a && DESK_KEY(row, 1) == b && DESK_KEY(row, 2) == c && DESK_KEY(row, 3) == d &&
+           DESK_KEY(row, 4) == e;
+}
+
+/* Every call with this table is refused with 8, and leaves the row and what it was lent. */
+static int all_refused(const uint32_t *row, const uint32_t *table) {
+    static const uint32_t events[1] = {DESK_TAKE_EVENT(1)};
+    uint32_t after[DESK_ROW];
+    uint16_t buffer[5] = {7, 7, 7, 7, 7};
+    uint64_t replies[1] = {77};
+    memcpy(after, row, sizeof after);
+    return refused(desk_take(after, DESK_ROW, passages, 18, table, 25, 1), 8) &&
+           desk_take_limited(after, DESK_ROW, passages, 18, table, 25, 1, DESK_MOST_COMPARISONS) ==
+               desk_take(after, DESK_ROW, passages, 18, table, 25, 1) &&
+           refused(desk_bring(after, DESK_ROW, passages, 18, table, 25, 0), 8) &&
+           refused(desk_path(after, DESK_ROW, passages, 18, table, 25, buffer, 5, 0), 8) && buffer[0] == 7 &&
+           is(desk_morning(after, DESK_ROW, passages, 18, table, 25, events, 1, replies, 1), DESK_DONE, 0) &&
+           refused(replies[0], 8) && memcmp(after, row, sizeof after) == 0;
+}
+
+/* A key off by one, by a bit of either half, lost, or of an unseen state; and with other estimates to the goal, another
+ * W or another label. */
+static void refuse_keys(const uint32_t *good) {
+    uint32_t row[DESK_ROW];
+    for (size_t s = 0; s < 5; s++) {
+        for (int half = 0; half < 2; half++) {
+            for (int bit = 0; bit < 32; bit += 31) {
+                memcpy(row, good, sizeof row);
+                row[DESK_KEY_PLACE(s) + half] ^= (uint32_t)1 << bit;
+                CHECK(all_refused(row, apart));
+            }
+        }
+    }
+    memcpy(row, good, sizeof row);
+    row[DESK_KEY_PLACE(2)] = 0;
+    CHECK(all_refused(row, apart));
+    memcpy(row, good, sizeof row);
+    row[DESK_KEY_PLACE(3)] = 100;
+    CHECK(all_refused(row, apart));
+    memcpy(row, good, sizeof row);
+    row[4] = 99;
+    CHECK(all_refused(row, apart));
+    memcpy(row, good, sizeof row);
+    row[263 + 2] -= 1;
+    CHECK(all_refused(row, apart));
+    CHECK(all_refused(good, estimates));
+}
+
+static void keep_keys(const uint32_t *found) {
+    static const uint32_t far[4] = {0, 255000000, 255000000, 0};
+    uint32_t row[DESK_ROW];
+    CHECK(DESK_ROW == 1319);
+    CHECK(DESK_KEY_PLACE(0) == 807 && DESK_KEY_PLACE(1) == 809 && DESK_KEY_PLACE(255) == DESK_ROW - 2);
+    CHECK(has_keys(found, 0, 200, 300, 500, 600));
+    junk(row, DESK_ROW);
+    CHECK(is(desk_open(5, 2, 0, 4, 100, 300, passages, 18, apart, 25, row, DESK_ROW), DESK_OPENED, 0));
+    CHECK(has_keys(row, 100, 0, 0, 0, 0));
+    CHECK(is(desk_take(row, DESK_ROW, passages, 18, apart, 25, 0), DESK_TOOK, 0));
+    CHECK(has_keys(row, 100, 0, 0, 0, 0));
+    CHECK(is(desk_bring(row, DESK_ROW, passages, 18, apart, 25, 0), DESK_BROUGHT, 2));
+    CHECK(has_keys(row, 100, 300, 600, 0, 0));
+    refuse_keys(row);
+    /* past n, and of an unseen state's label, nothing is asked */
+    row[DESK_KEY_PLACE(5)] = 1;
+    row[DESK_ROW - 1] = 4294967295u;
+    row[263 + 3] = 7;
+    CHECK(is(desk_take(row, DESK_ROW, passages, 18, apart, 25, 0), DESK_TOOK, 1));
+    CHECK(is(desk_bring(row, DESK_ROW, passages, 18, apart, 25, 0), DESK_BROUGHT, 2));
+    CHECK(row[DESK_KEY_PLACE(5)] == 1 && row[DESK_ROW - 1] == 4294967295u);
+    row[DESK_KEY_PLACE(5)] = row[DESK_ROW - 1] = 0;
+    CHECK(has_keys(row, 100, 300, 400, 0, 1100));
+    /* 10000 times 255000000 */
+    CHECK(is(desk_open(2, 1, 1, 0, 10000, 10000, NULL, 0, far, 4, row, DESK_ROW), DESK_OPENED, 0));
+    CHECK(row[809] == 3084393472u && row[810] == 593);
+    CHECK(has_keys(row, 0, ((uint64_t)593 << 32) + 3084393472u, 0, 0, 0));
+    CHECK(is(desk_take(row, DESK_ROW, NULL, 0, far, 4, 0), DESK_TOOK, 1));
+}
+
 /* ---- Refusals ---- */
 
 static int is_blank(const uint32_t *row) {
@@ -190,18 +280,19 @@ static void refuse_openings(void) {
 
 /* Every call refuses a row of another length, and leaves it. */
 static void refuse_lengths(void) {
-    static const size_t lengths[] = {0, 1, DESK_ROW - 1, DESK_ROW + 1, 2 * DESK_ROW};
+    static const size_t lengths[] = {0, 1, 807, DESK_ROW - 1, DESK_ROW + 1, 2 * DESK_ROW};
     static const uint32_t events[1] = {0};
     uint32_t row[2 * DESK_ROW], before[2 * DESK_ROW];
     uint16_t buffer[5] = {7, 7, 7, 7, 7};
     uint64_t replies[1] = {77};
     junk(row, 2 * DESK_ROW);
     memcpy(before, row, sizeof row);
-    for (int i = 0; i < 5; i++) {
+    for (int i = 0; i < 6; i++) {
         uint32_t *lent = lengths[i] == 0 ? NULL : row;
         CHECK(refused(open_a(5, 4, 100, 100, lent, lengths[i]), 8));
         CHECK(refused(open_a(0, 4, 100, 100, lent, lengths[i]), 8));
         CHECK(refused(take_a(lent, lengths[i], 0), 8));
+        CHECK(take_limited_a(lent, lengths[i], 0, DESK_MOST_COMPARISONS) == take_a(lent, lengths[i], 0));
         CHECK(refused(bring_a(lent, lengths[i], 0), 8));
         CHECK(refused(path_a(lent, lengths[i], buffer, 5, 0), 8));
         CHECK(refused(morning_a(lent, lengths[i], events, 1, replies, 1), 8));
@@ -594,6 +685,7 @@ int main(void) {
     run_as_a_morning(row);
     run_limited(row);
     read_paths(row);
+    keep_keys(row);
     refuse_openings();
     refuse_lengths();
     refuse_fields();

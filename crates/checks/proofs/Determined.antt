@@ -53,6 +53,12 @@ marks-right κs a x y p q i = (same p q i, x .1)
 pub labels-right : Fixes f.fits.labels_right.ended f.fits.labels_right.Reads.Learnt
 labels-right κs a x y p q i = (same p q i, x .1)
 
+pub stored-key : Fixes f.fits.stored_key.ended f.fits.stored_key.Reads.Learnt
+stored-key κs a x y p q i = (same p q i, x .1)
+
+pub keys-right : Fixes f.fits.keys_right.ended f.fits.keys_right.Reads.Learnt
+keys-right κs a x y p q i = (same p q i, x .1)
+
 pub worker-right : Fixes f.fits.worker_right.ended f.fits.worker_right.Reads.Learnt
 worker-right κs a x y p q i = (same p q i, x .1)
 

@@ -6,7 +6,9 @@ use lib.ListN.{getD}
 use lib.Dec.{ltb, leb, eqb}
 use Rattle.laws.specs.All.{all}
 use Rattle.laws.specs.Count.{count}
+use Rattle.rule.specs.Task.{estimate}
 use Rattle.rule.specs.Marks.{isMark, isOut, none}
+use Rattle.rule.specs.Rule.{storedKey}
 
 -- "phase 0 to 2"
 abbrev pub phaseRight : ℕ → Bool
@@ -19,6 +21,13 @@ marksRight mark n = all (λ s. isMark (getD mark s 0)) n
 -- "labels of states below n at most 255,000,000"
 unfoldable pub labelsRight : List ℕ → ℕ → Bool
 labelsRight label n = all (λ s. leb (getD label s 0) 255000000) n
+
+-- order 8: "8 also where the stored key of a state below n isn't that"
+abbrev pub keyRight : List ℕ → List ℕ → List ℕ → List ℕ → ℕ → ℕ → ℕ → ℕ → Bool
+keyRight mark label key estimates n goal pull s = eqb (getD key s 0) (storedKey (getD mark s 0) (getD label s 0) pull (estimate estimates n s goal))
+
+unfoldable pub keysRight : List ℕ → List ℕ → List ℕ → List ℕ → ℕ → ℕ → ℕ → Bool
+keysRight mark label key estimates n goal pull = all (keyRight mark label key estimates n goal pull) n
 
 -- "each worker below k holds nothing or an out state"
 abbrev pub workerRight : List ℕ → ℕ → ℕ → Bool

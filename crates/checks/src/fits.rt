@@ -1,7 +1,11 @@
 // The clauses of "Fits" on a machine's own numbers, each over the rows that it reads.
 ghost use mathlib.Core.Path.{_≡_};
-ghost use Prim.Native.Nat.{_≤_};
-ghost use Rattle.checks.specs.Fits.{marksRight, labelsRight, workerRight, workersRight, heldOnce};
+ghost use Prim.Native.Nat.{_≤_, _<_};
+ghost use lib.ListN.{getD};
+ghost use Rattle.rule.specs.Task.{estimate};
+ghost use Rattle.rule.specs.Rule.{storedKey};
+ghost use Rattle.rule.specs.Laws.{WholeTable};
+ghost use Rattle.checks.specs.Fits.{marksRight, labelsRight, keysRight, workerRight, workersRight, heldOnce};
 ghost use Rattle.checks.specs.Laws.{Counted};
 
 // Each state below n has one of the marks.
@@ -26,6 +30,47 @@ pub fn labels_right(label: &[u32; 256], n: usize) -> bool
     let mut right = true;
     for s in 0..n {
         if label[s] > 255000000 {
+            right = false;
+        }
+    }
+    right
+}
+
+// What is stored as the key of s. An unseen state's estimate is left unread: where most are unseen, most of the table is.
+pub fn stored_key<'a>(
+    mark: &'a [u8; 256],
+    label: &'a [u32; 256],
+    estimates: &[u32],
+    n: usize,
+    goal: usize,
+    pull: u16,
+    s: usize,
+) -> u64
+    requires { ⌜ WholeTable (now estimates) n × (goal < n) × (s < n) ⌝ }
+    ensures { λ r. ⌜ r ≡ storedKey (getD (now (mark .entry)) s 0) (getD (now (label .entry)) s 0) pull (estimate (now (estimates .entry)) n s goal) ⌝ }
+{
+    if mark[s] == rule::UNSEEN {
+        return 0;
+    }
+    rule::key(label[s], pull, rule::estimate(estimates, n, s, goal))
+}
+
+// Each state below n has that stored.
+pub fn keys_right<'a>(
+    mark: &'a [u8; 256],
+    label: &'a [u32; 256],
+    key: &'a [u64; 256],
+    estimates: &[u32],
+    n: usize,
+    goal: usize,
+    pull: u16,
+) -> bool
+    requires { ⌜ WholeTable (now estimates) n × (goal < n) ⌝ }
+    ensures { λ r. ⌜ r ≡ keysRight (now (mark .entry)) (now (label .entry)) (now (key .entry)) (now (estimates .entry)) n goal pull ⌝ }
+{
+    let mut right = true;
+    for s in 0..n {
+        if key[s] != stored_key(mark, label, estimates, n, goal, pull, s) {
             right = false;
         }
     }

@@ -4,6 +4,7 @@ mod fits;
 mod opening;
 
 pub use fits::held_once;
+pub use fits::keys_right;
 pub use fits::labels_right;
 pub use fits::marks_right;
 pub use fits::workers_right;

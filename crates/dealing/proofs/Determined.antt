@@ -17,9 +17,6 @@ pub decide : Fixes f.decide.ended f.decide.Reads.Learnt
 decide κs a x y p q i = (same p q i, x .1)
 
 -- limits.rt
-pub keys : Fixes f.limits.keys.ended f.limits.keys.Reads.Learnt
-keys κs a x y p q i = (same p q i, x .1)
-
 pub is-rival : Answers f.limits.is_rival.ended f.limits.is_rival.Reads.Asked f.limits.is_rival.Reads.Learnt
 is-rival = (λ κs a. tt, λ κs a x y p q i. (same p q i, x .1))
 
@@ -43,9 +40,6 @@ try-others κs a x y p q i = (same p q i, x .1)
 
 pub front-stop : Fixes f.limits.front_stop.ended f.limits.front_stop.Reads.Learnt
 front-stop κs a x y p q i = (same p q i, x .1)
-
-pub decide-keyed : Fixes f.limits.decide_keyed.ended f.limits.decide_keyed.Reads.Learnt
-decide-keyed κs a x y p q i = (same p q i, x .1)
 
 pub decide-limited : Fixes f.limits.decide_limited.ended f.limits.decide_limited.Reads.Learnt
 decide-limited κs a x y p q i = (same p q i, x .1)

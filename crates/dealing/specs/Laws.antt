@@ -1,17 +1,19 @@
 -- The laws about dependsOn, safe, key, choice and decision that the loops and the callers use.
 use mathlib.Core.Path.{_≡_, refl, sym, _∙_}
 use mathlib.Core.Bool.{Bool, true, false, cond, _&&_, not, true≢false}
+use mathlib.Core.List.{List}
 use mathlib.Core.Logic.{_⊎_, ⊎-elim}
 use Prim.Native.Nat.{ℕ, _+_, _*_, _≤_, _<_}
 use native.Mathlib.Nat.{eq-or-lt-of-le}
 use native.Mathlib.Omega.{arith}
 use borrow.Author.Tests.{eq-eqb, ne-eqb, eqb-true, eqb-false, ltb-true, ltb-false, leb-false, lt-ltb, le-ltb, not-true, not-false}
 use lib.Dec.{ltb, eqb}
+use lib.ListN.{getD}
 use Rattle.laws.specs.Truth.{and-left, and-right, and-false}
 use Rattle.laws.specs.First.{first, first-found, first-at, first-end, first-le, any-not, any-of}
 use Rattle.laws.specs.Least.{Best, best-zero, best-skip, best-lost, best-won, best-end, least-passes, least-below, least-nothing}
 use Rattle.rule.specs.Marks.{waiting, out, isOpen, isLive}
-use Rattle.rule.specs.Rule.{independent, holdsBack, keyOf}
+use Rattle.rule.specs.Rule.{independent, holdsBack}
 use Rattle.rule.specs.Laws.{independent-is}
 use Rattle.dealing.specs.declared.Choice.{Choice}
 use Rattle.dealing.specs.declared.Choice.the-variants.{Safe, Stopped, NoneOpen}
@@ -63,6 +65,10 @@ module _ (b : Board) (s : ℕ) where
   unfolding safe
   safe-open o e = rw (eq-eqb (markAt b s) waiting o, eq-eqb (firstDependence b s) (b .n) e)
 
+  pub safe-is-open : safe b s ≡ true → markAt b s ≡ waiting
+  unfolding safe
+  safe-is-open e = eqb-true (markAt b s) waiting (and-left _ _ e)
+
   pub safe-shut : (markAt b s ≡ waiting → ⊥) → safe b s ≡ false
   unfolding safe
   safe-shut n = rw (ne-eqb (markAt b s) waiting n)
@@ -89,10 +95,9 @@ pub out-by : (b : Board) (r : ℕ) → r ≡ firstMarked (b .mark) (b .n) out �
 unfolding anyOut firstMarked
 out-by b r e = rw e
 
--- the key, where the estimate g stands in a local
-pub key-is : (goal pull : ℕ) (b : Board) (s k g : ℕ) → k ≡ keyOf (labelAt b s) pull g → g ≡ h b s goal → k ≡ key goal pull b s
-unfolding key
-key-is goal pull b s k g e q = rw q at e
+-- a row has the keys of the open states, which are the ones that are looked at
+pub record Keyed (goal pull : ℕ) (b : Board) (row : List ℕ) : Type 0 where
+  pub at : (s : ℕ) → s < b .n → isOpen (markAt b s) ≡ true → getD row s 0 ≡ key goal pull b s
 
 -- something is open or out: the second step isn't taken
 pub busy-open : (b : Board) → anyOpen b ≡ true → (not (anyOpen b) && not (anyOut b)) ≡ false
@@ -302,6 +307,13 @@ module _ (goal pull : ℕ) (b : Board) where
   deal-in s e =
       let w = deal-by (safe b goal) (not (anyOpen b) && not (anyOut b)) (ltb (choice goal pull b) (b .n)) (not (anyOut b)) _ _ _ s e in
       rw (w .1) at (ltb-true (choice goal pull b) (b .n) (w .0))
+
+  -- and it is safe, so it was open
+  pub deal-safe : (s : ℕ) → decision goal pull b ≡ Deal s → safe b s ≡ true
+  unfolding decision
+  deal-safe s e =
+      let w = deal-by (safe b goal) (not (anyOpen b) && not (anyOut b)) (ltb (choice goal pull b) (b .n)) (not (anyOut b)) _ _ _ s e in
+      rw (w .1) at (choice-safe goal pull b (ltb-true (choice goal pull b) (b .n) (w .0)))
 
   -- what a Wait says of the board: something is out, nothing is safe, and the state is the one waited for
   pub wait-says : (t : ℕ) → decision goal pull b ≡ Wait t → (anyOut b ≡ true) × ((s : ℕ) → s < b .n → safe b s ≡ false) × (t ≡ waitedFor goal pull b)

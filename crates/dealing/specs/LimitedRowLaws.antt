@@ -21,17 +21,6 @@ use Rattle.dealing.specs.declared.limits.Test.{Test}
 use Rattle.dealing.specs.declared.limits.Test.the-variants.{Cut as TestCut, Ended}
 use Rattle.dealing.specs.Board.{Board, labelAt, h}
 
--- the row of keys: each state's below n, 0 past it
-unfoldable pub noKeys : List ℕ
-noKeys = replicate 256 0
-
-unfoldable pub keyRow : List ℕ → List ℕ → ℕ → ℕ → ℕ → List ℕ
-keyRow label estimates n goal pull = overlaid 0 (made (λ s. keyOf (getD label s 0) pull (estimate estimates n s goal)) n) noKeys
-
-pub no-keys : length noKeys ≡ 256
-unfolding noKeys
-no-keys = refl
-
 -- a state with this mark and key is compared with a candidate that has keyS
 abbrev pub isRival : ℕ → ℕ → ℕ → Bool
 isRival mark key keyS = isOut mark || (isOpen mark && ltb key keyS)

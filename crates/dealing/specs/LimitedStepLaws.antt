@@ -23,15 +23,11 @@ use Rattle.dealing.specs.declared.limits.Test.the-variants.{Cut as TestC
 use Rattle.dealing.specs.declared.limits.Tries.{Tries}
 use Rattle.dealing.specs.declared.limits.Tries.the-variants.{Cut as TriesCut, Passed, Failed}
 use Rattle.dealing.specs.Board.{Board, board, markAt, labelAt, h, dependsOn, key, foremost, anyOpen, anyOut, firstMarked}
-use Rattle.dealing.specs.Laws.{foremost-some, foremost-none, foremost-any, busy-open, busy-out, out-by}
+use Rattle.dealing.specs.Laws.{Keyed, foremost-some, foremost-none, foremost-any, busy-open, busy-out, out-by}
 use Rattle.dealing.specs.Limited.{Trial, compared, stopsAt, comparisons, passes, follows, next, candidates, tried, fullCount, stoppedBy, limitedDecision, limited}
-use Rattle.dealing.specs.LimitedRowLaws.{noKeys, keyRow, isRival, rivals, holdsOff, comesAfter, comesOn, nextIn, stopOf, madeOf, testOf, frontStop}
+use Rattle.dealing.specs.LimitedRowLaws.{isRival, rivals, holdsOff, comesAfter, comesOn, nextIn, stopOf, madeOf, testOf, frontStop}
 use Rattle.dealing.specs.LimitedOrderLaws.{Other, onward, follows-says, follows-of, comes, next-on, away, onward-none, onward-passed, onward-held}
 use Rattle.dealing.specs.LimitedLaws.{tried-without, tried-passed, tried-held, goal-passes, goal-held, goal-shut, foremost-first, foremost-before, foremost-passes, foremost-there, foremost-waits, tried-chosen, foremost-stopped}
-
--- a row has the keys of the open states, which are the ones that are looked at
-pub record Keyed (goal pull : ℕ) (b : Board) (row : List ℕ) : Type 0 where
-  pub at : (s : ℕ) → s < b .n → isOpen (markAt b s) ≡ true → getD row s 0 ≡ key goal pull b s
 
 module _ (goal pull : ℕ) (b : Board) where
   -- where the test of s stops, n where s is no state
@@ -121,16 +117,6 @@ module _ (goal pull : ℕ) (b : Board) (row : List ℕ) (k : Keyed goal pull b r
   unfolding nextIn next
   next-keyed s w =
       least-same _ _ _ _ (b .n) (b .n) (omega arith) (λ t m. comes-keyed s w t m (isOpen (markAt b t)) refl) (λ t m e. k .at t m (and-left _ _ e))
-
--- the row that `keys` makes has them
-pub row-keyed : (goal pull n excess : ℕ) (estimates mark label : List ℕ) → Keyed goal pull (board n excess estimates mark label) (keyRow label estimates n goal pull)
-unfolding keyRow key
-row-keyed goal pull n excess estimates mark label = record {
-  at = λ s l o. overlaid-at (made keyAt n) noKeys s 0 (omega (arith, made-length keyAt n)) ∙ made-at keyAt n s 0 l;
-}
-  where
-    keyAt : ℕ → ℕ
-    keyAt s = keyOf (getD label s 0) pull (estimate estimates n s goal)
 
 -- trying the others within a limit, one law for each end
 module _ (goal pull : ℕ) (b : Board) (first : ℕ) where

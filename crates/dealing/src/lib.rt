@@ -1,11 +1,11 @@
 // The safety test, the choice, and which of its five steps a Take comes to. All of it reads the board, each state's
-// mark and label with the table of estimates, and changes nothing. What a limited Take comes to stands in `limits`.
+// mark, label and stored key with the table of estimates, and changes nothing. What a limited Take comes to stands in `limits`.
 ghost use mathlib.Core.Path.{_≡_};
 ghost use Prim.Native.Nat.{_≤_, _<_};
 ghost use Rattle.rule.specs.Laws.{WholeTable};
 ghost use Rattle.dealing.specs.Board.{board, firstDependence, firstMarked};
 ghost use Rattle.dealing.specs.Decision.{decision};
-ghost use Rattle.dealing.specs.Laws.{choose};
+ghost use Rattle.dealing.specs.Laws.{Keyed, choose};
 
 mod limits;
 
@@ -62,17 +62,19 @@ pub fn first_dependence<'a>(
 }
 
 // The safe state with the smallest key, the lowest number among equals. Where none is safe, the test of the open state
-// with the smallest key, the lowest number among equals, says where it stopped.
+// with the smallest key, the lowest number among equals, says where it stopped. The goal and the pull aren't looked at: they
+// say which keys stand in the row.
 pub fn choose<'a>(
     mark: &'a [u8; 256],
     label: &'a [u32; 256],
+    key: &'a [u64; 256],
     estimates: &[u32],
     n: usize,
     excess: u16,
     goal: usize,
     pull: u16,
 ) -> Choice
-    requires { ⌜ WholeTable (now estimates) n × (goal < n) ⌝ }
+    requires { ⌜ Keyed goal pull (board n excess (now estimates) (now mark) (now label)) (now key) × WholeTable (now estimates) n ⌝ }
     ensures { λ r. ⌜ r ≡ choose goal pull (board n excess (now (estimates .entry)) (now (mark .entry)) (now (label .entry))) ⌝ }
 {
     // The safe state that leads, and its key.
@@ -90,10 +92,10 @@ pub fn choose<'a>(
             continue 'candidates;
         }
         let label_s = label[s];
-        let key = rule::key(label_s, pull, rule::estimate(estimates, n, s, goal));
+        let key_s = key[s];
         // A key that can't win spares the comparisons.
         if best != n {
-            if key >= least {
+            if key_s >= least {
                 continue 'candidates;
             }
         }
@@ -103,12 +105,12 @@ pub fn choose<'a>(
                     let h = rule::estimate(estimates, n, t, s);
                     if rule::holds_back(mark[t], label_s, label[t], excess, h) {
                         if front != n {
-                            if key >= ahead {
+                            if key_s >= ahead {
                                 continue 'candidates;
                             }
                         }
                         front = s;
-                        ahead = key;
+                        ahead = key_s;
                         stop = t;
                         continue 'candidates;
                     }
@@ -116,7 +118,7 @@ pub fn choose<'a>(
             }
         }
         best = s;
-        least = key;
+        least = key_s;
     }
     if best == n {
         if front != n {
@@ -140,17 +142,18 @@ pub fn first_marked(mark: &[u8; 256], n: usize, wanted: u8) -> usize
     n
 }
 
-// Which of its steps a Take comes to.
+// Which of its steps a Take comes to. The keys stand in a row.
 pub fn decide<'a>(
     mark: &'a [u8; 256],
     label: &'a [u32; 256],
+    key: &'a [u64; 256],
     estimates: &[u32],
     n: usize,
     excess: u16,
     goal: usize,
     pull: u16,
 ) -> Decision
-    requires { ⌜ WholeTable (now estimates) n × (goal < n) ⌝ }
+    requires { ⌜ Keyed goal pull (board n excess (now estimates) (now mark) (now label)) (now key) × WholeTable (now estimates) n × (goal < n) ⌝ }
     ensures { λ r. ⌜ r ≡ decision goal pull (board n excess (now (estimates .entry)) (now (mark .entry)) (now (label .entry))) ⌝ }
 {
     if mark[goal] == rule::OPEN {
@@ -166,7 +169,7 @@ pub fn decide<'a>(
             return Decision::NoPath;
         }
     }
-    let choice = choose(mark, label, estimates, n, excess, goal, pull);
+    let choice = choose(mark, label, key, estimates, n, excess, goal, pull);
     match choice {
         Choice::Safe(s) => Decision::Deal(s),
         Choice::Stopped(t) => {

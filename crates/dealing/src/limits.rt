@@ -6,10 +6,11 @@ ghost use mathlib.Core.Path.{_≡_};
 ghost use Prim.Native.Nat.{_≤_, _<_};
 ghost use Rattle.rule.specs.Laws.{WholeTable};
 ghost use Rattle.dealing.specs.Board.{board};
+ghost use Rattle.dealing.specs.Laws.{Keyed};
 ghost use Rattle.dealing.specs.Limited.{limited};
-ghost use Rattle.dealing.specs.LimitedRowLaws.{keyRow, isRival, rivals, holdsOff, testOf, comesAfter, frontStop};
+ghost use Rattle.dealing.specs.LimitedRowLaws.{isRival, rivals, holdsOff, testOf, comesAfter, frontStop};
 ghost use Rattle.dealing.specs.LimitedLeadLaws.{leadIn, leadsIn, foremostLead};
-ghost use Rattle.dealing.specs.LimitedStepLaws.{Keyed, ToTry, triesOf};
+ghost use Rattle.dealing.specs.LimitedStepLaws.{ToTry, triesOf};
 use super::Decision;
 use super::Limited;
 use super::first_marked;
@@ -27,18 +28,6 @@ pub enum Tries {
     Cut,
     Passed(usize, usize),
     Failed(usize, usize),
-}
-
-// Each state's key, and 0 past the last state.
-pub fn keys(label: &[u32; 256], estimates: &[u32], n: usize, goal: usize, pull: u16) -> [u64; 256]
-    requires { ⌜ WholeTable (now estimates) n × (goal < n) ⌝ }
-    ensures { λ r. ⌜ r ≡ keyRow (now (label .entry)) (now (estimates .entry)) n goal pull ⌝ }
-{
-    let mut key = [0u64; 256];
-    for s in 0..n {
-        key[s] = rule::key(label[s], pull, rule::estimate(estimates, n, s, goal));
-    }
-    key
 }
 
 // A state with this mark and key is compared with a candidate that has key_s: it is out, or open with a smaller key.
@@ -267,7 +256,7 @@ pub fn front_stop(
 }
 
 // Which of its steps a limited Take comes to, with the keys in a row. The pull isn't looked at: it says which keys these are.
-pub fn decide_keyed<'a>(
+pub fn decide_limited<'a>(
     mark: &'a [u8; 256],
     label: &'a [u32; 256],
     key: &'a [u64; 256],
@@ -322,22 +311,4 @@ pub fn decide_keyed<'a>(
             Limited::Decided(Decision::Wait(state), count)
         }
     }
-}
-
-// Which of its steps a limited Take comes to.
-pub fn decide_limited<'a>(
-    mark: &'a [u8; 256],
-    label: &'a [u32; 256],
-    estimates: &[u32],
-    n: usize,
-    excess: u16,
-    goal: usize,
-    pull: u16,
-    limit: usize,
-) -> Limited
-    requires { ⌜ WholeTable (now estimates) n × (goal < n) ⌝ }
-    ensures { λ r. ⌜ r ≡ limited goal pull (board n excess (now (estimates .entry)) (now (mark .entry)) (now (label .entry))) limit ⌝ }
-{
-    let key = keys(label, estimates, n, goal, pull);
-    decide_keyed(mark, label, &key, estimates, n, excess, goal, pull, limit)
 }

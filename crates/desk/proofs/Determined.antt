@@ -62,8 +62,8 @@ code = (λ κs a. tt, λ κs a x y p q i. (same p q i, x .1))
 pub refused : Answers f.fits.refused.ended f.fits.refused.Reads.Asked f.fits.refused.Reads.Learnt
 refused = (λ κs a. tt, λ κs a x y p q i. (same p q i, x .1))
 
-pub task-fits : Answers f.fits.task_fits.ended f.fits.task_fits.Reads.Asked f.fits.task_fits.Reads.Learnt
-task-fits = (λ κs a. tt, λ κs a x y p q i. (same p q i, x .1))
+pub sound : Answers f.fits.sound.ended f.fits.sound.Reads.Asked f.fits.sound.Reads.Learnt
+sound = (λ κs a. tt, λ κs a x y p q i. (same p q i, x .1))
 
 pub rows-fit : Fixes f.fits.rows_fit.ended f.fits.rows_fit.Reads.Learnt
 rows-fit κs a x y p q i = (same p q i, x .1)

@@ -54,7 +54,7 @@ call-task passages estimates m (take worker) =
     (λ _ _. act-task passages estimates m (handsOf m) worker (decision (m .goal) (m .pull) (boardOf m estimates)))
 call-task passages estimates m (bring worker) =
     admitted-either m (handsOf m) passages estimates (λ a. taskOf (a .machine) passages estimates ≡ taskOf m passages estimates) worker _ _ (λ _ _. refl)
-    (λ _ _. sweep-leaves (λ (x : Machine). taskOf x passages estimates) (λ _ _ _ _. refl) m passages (heldBy (handsOf m) worker))
+    (λ _ _. sweep-leaves (λ (x : Machine). taskOf x passages estimates) (λ _ _ _ _ _. refl) m passages estimates (heldBy (handsOf m) worker))
 
 -- events after others, and one event more
 last-append : (m : Machine) (given more : List Answer) → lastOf m (given ++ more) ≡ lastOf (lastOf m given) more
@@ -89,16 +89,6 @@ module _ (passages estimates : List ℕ) where
   unfolding replies answers
   replies-length m [] = refl
   replies-length m (x ∷ es) = rw (replies-length (call passages estimates m x .machine) es)
-
-  after-task : (m : Machine) (es : List Event) → taskOf (after passages estimates m es) passages estimates ≡ taskOf m passages estimates
-  unfolding after answers
-  after-task m [] = refl
-  after-task m (e ∷ es) = after-task (call passages estimates m e .machine) es ∙ call-task passages estimates m e
-
-  -- so that whether conditions 1 to 4 hold is looked at once for all of them
-  pub after-sound : (sound : Bool) (m₀ m : Machine) (es : List Event) → sound ≡ taskFits m₀ passages estimates → m ≡ after passages estimates m₀ es → sound ≡ taskFits m passages estimates
-  after-sound sound m₀ m es s e =
-      s ∙ ap (λ (t : Task). eqb (earlyFault t) 0) (sym (after-task m₀ es) ∙ ap (λ (x : Machine). taskOf x passages estimates) (sym e))
 
 -- the first so many events of a list of numbers
 abbrev pub firsts : List ℕ → ℕ → List Event

@@ -11,13 +11,14 @@ use borrow.Rule.Slice.PartMut.{midOf, putMid}
 use Rattle.laws.specs.Truth.{and-left, and-right, cond-either, provided, provided-either, provided-both, provided-kept}
 use Rattle.laws.specs.Fold.{fold, fold-zero, fold-more, fold-keeps}
 use Rattle.laws.specs.Part.{overlaid, put-overlaid}
-use Rattle.rule.specs.Task.{passageCount, near, far, cost, isClear}
-use Rattle.rule.specs.Marks.{none}
+use Rattle.rule.specs.Task.{passageCount, near, far, cost, isClear, estimate}
+use Rattle.rule.specs.Marks.{waiting, none}
 use Rattle.rule.specs.Refusals.{unfit, noWorker, notSearching, wrongHands, nothingOut, notFound, brokenTrail, shortBuffer}
-use Rattle.rule.specs.Rule.{lowers}
+use Rattle.rule.specs.Rule.{keyOf, lowers}
+use Rattle.rule.specs.Laws.{WholeTable}
 use Rattle.checks.specs.Opening.{Task, earlyFault, fault}
 use Rattle.checks.specs.Fits.{phaseRight, marksRight, labelsRight, workersRight}
-use Rattle.checks.specs.Laws.{Right, right, fault-none, near-in, far-in, cost-in, label-low, worker-holds}
+use Rattle.checks.specs.Laws.{Right, right, whole, fault-none, near-in, far-in, cost-in, label-low, worker-holds}
 use Rattle.dealing.specs.Board.{Board}
 use Rattle.dealing.specs.Decision.{decision}
 use Rattle.dealing.specs.Laws.{deal-in, wait-in}
@@ -27,11 +28,11 @@ use Rattle.trail.specs.Trail.{path}
 use Rattle.trail.specs.Laws.{Inside, Followed, statesBack, path-followed, path-states}
 use Rattle.desk.specs.declared.Machine.{Machine}
 use Rattle.desk.specs.declared.Reply.the-variants.{Opened, Read}
-use Rattle.desk.specs.Machine.{taskOf, trailOf, labelOf, handsOf, heldBy}
+use Rattle.desk.specs.Machine.{withMark, withLabel, withVia, withKey, taskOf, trailOf, labelOf, keyFor, handsOf, heldBy}
 use Rattle.desk.specs.declared.Answer.{Answer}
 use Rattle.desk.specs.Reply.{answer, refused, refusalOf}
 use Rattle.desk.specs.Opening.{openedMachine, blankMachine, openingOf}
-use Rattle.desk.specs.Fits.{rowsFit, taskFits, fits}
+use Rattle.desk.specs.Fits.{rowsFit, taskFits, keysFit, isSound, fits}
 use Rattle.desk.specs.Admission.{admitted}
 use Rattle.desk.specs.Bring.{Swept, swept, labelled, applyPassage, sweepOf, finish, bringStep}
 use Rattle.desk.specs.Path.{PathReading, pathRefused, pathOf}
@@ -42,49 +43,41 @@ start-in t e =
     let r = right t (fault-none t e) in
     omega (arith, r .start-in, r .states)
 
--- and conditions 1 to 4 hold of it and the machine that it starts with
-pub opened-sound : (t : Task) (a : Answer) → a ≡ openingOf t → refusalOf (a .reply) ≡ 0 → taskFits (a .machine) (t .passages) (t .estimates) ≡ true
-unfolding openingOf openedMachine
-opened-sound t a e = subst⁻¹ Sound e (go (eqb (fault t) 0) refl)
-  where
-    Sound : Answer → Type 0
-    Sound x = refusalOf (x .reply) ≡ 0 → taskFits (x .machine) (t .passages) (t .estimates) ≡ true
-
-    go : (b : Bool) → eqb (fault t) 0 ≡ b → Sound (cond b (answer (openedMachine t) Opened) (refused blankMachine (fault t)))
-    go true q z = eq-eqb (earlyFault t) 0 (fault-none t (eqb-true (fault t) 0 q))
-    go false q z = absurd (eqb-false (fault t) 0 q z)
-
 -- a machine whose rows are as long as their types say
 pub record Sized (m : Machine) : Type 0 where
   pub marks : length (m .mark) ≡ 256
   pub labels : length (m .label) ≡ 256
   pub vias : length (m .via) ≡ 256
   pub workers : length (m .held) ≡ 32
+  pub keys : length (m .key) ≡ 256
 
 -- a machine that fits, with what its workers hold, as facts
 pub record Fitting (m : Machine) (held passages estimates : List ℕ) : Type 0 where
   pub task : Right (taskOf m passages estimates)
   pub labels : labelsRight (m .label) (m .n) ≡ true
   pub workers : workersRight (m .mark) held (m .n) (m .k) ≡ true
+  pub keys : keysFit m estimates ≡ true
 
 -- where conditions 1 to 4 hold
 pub sound-task : (t : Task) → eqb (earlyFault t) 0 ≡ true → Right t
 sound-task t e = right t (eqb-true (earlyFault t) 0 e)
 
-pub sound-sizes : (t : Task) (sound : Bool) → sound ≡ eqb (earlyFault t) 0 → sound ≡ true → (t .n ≤ 256) × (t .k ≤ 32)
-sound-sizes t sound s e = let r = sound-task t (sym s ∙ e) in (r .states, r .workers)
+pub sound-sizes : (t : Task) (sound keys : Bool) → sound ≡ (eqb (earlyFault t) 0 && keys) → sound ≡ true → (t .n ≤ 256) × (t .k ≤ 32)
+sound-sizes t sound keys s e = let r = sound-task t (and-left _ keys (sym s ∙ e)) in (r .states, r .workers)
 
 pub fitting : (m : Machine) (held passages estimates : List ℕ) → fits m held passages estimates ≡ true → Fitting m held passages estimates
 unfolding fits rowsFit
 fitting m held passages estimates e =
-    let e₁ = and-right (taskFits m passages estimates) _ e in
+    let e₀ = and-left (isSound m passages estimates) _ e in
+    let e₁ = and-right (isSound m passages estimates) _ e in
     let e₂ = and-right (phaseRight (m .phase)) _ e₁ in
     let e₃ = and-right (marksRight (m .mark) (m .n)) _ e₂ in
     let e₄ = and-right (labelsRight (m .label) (m .n)) _ e₃ in
     record {
-      task = sound-task (taskOf m passages estimates) (and-left _ _ e);
+      task = sound-task (taskOf m passages estimates) (and-left _ (keysFit m estimates) e₀);
       labels = and-left _ _ e₃;
       workers = and-left _ _ e₄;
+      keys = and-right (taskFits m passages estimates) _ e₀;
     }
 
 -- the ladder of 8, 9 and 10 over what the three conditions come to
@@ -101,14 +94,14 @@ pub record Admitted (m : Machine) (held passages estimates : List ℕ) (worker :
   pub worker-in : worker < m .k
   pub searching : m .phase ≡ 0
 
--- what the code finds of "Fits", where conditions 1 to 4 come to `sound`
-pub fits-by : (m : Machine) (held passages estimates : List ℕ) (sound : Bool) → sound ≡ taskFits m passages estimates
+-- what the code finds of "Fits", where conditions 1 to 4 and the keys come to `sound`
+pub fits-by : (m : Machine) (held passages estimates : List ℕ) (sound : Bool) → sound ≡ isSound m passages estimates
     → (fit : Bool) → fit ≡ (sound && rowsFit (m .n) (m .k) (m .phase) (m .mark) (m .label) held) → fit ≡ fits m held passages estimates
 unfolding fits
 fits-by m held passages estimates sound s fit e = rw s at e
 
--- a call whose first refusal, as the code finds it, is `number`: conditions 1 to 4 come to `sound`
-module _ (m : Machine) (held passages estimates : List ℕ) (worker : ℕ) (sound : Bool) (number : ℕ) (s : sound ≡ taskFits m passages estimates)
+-- a call whose first refusal, as the code finds it, is `number`: conditions 1 to 4 and the keys come to `sound`
+module _ (m : Machine) (held passages estimates : List ℕ) (worker : ℕ) (sound : Bool) (number : ℕ) (s : sound ≡ isSound m passages estimates)
     (q : number ≡ callFault (sound && rowsFit (m .n) (m .k) (m .phase) (m .mark) (m .label) held) (m .k) (m .phase) worker) where
   found-fault : number ≡ callFault (fits m held passages estimates) (m .k) (m .phase) worker
   found-fault = q ∙ ap (λ (fit : Bool). callFault fit (m .k) (m .phase) worker) (fits-by m held passages estimates sound s _ refl)
@@ -177,22 +170,26 @@ placed-by (Wait s) f g = g s refl
 pub placed : (goal pull : ℕ) (b : Board) → b .n ≤ 256 → Placed (decision goal pull b)
 placed goal pull b l = placed-by (decision goal pull b) (λ s e. omega (arith, deal-in goal pull b s e)) (λ s e. omega (arith, wait-in goal pull b s e))
 
--- the state s can be brought: far ends have places in the rows, and label + cost of a passage that isn't blocked fits 32 bits
-pub record Carried (m : Machine) (passages : List ℕ) (s : ℕ) : Type 0 where
+-- the state s can be brought: far ends are states, label + cost of a passage that isn't blocked fits 32 bits, and the table has each estimate to the goal
+pub record Carried (m : Machine) (passages estimates : List ℕ) (s : ℕ) : Type 0 where
   pub few : length passages ≤ 12288
+  pub table : WholeTable estimates (m .n)
+  pub goal : m .goal < m .n
   pub state : s < 256
   pub low : labelOf m s ≤ 255000000
-  pub fars : (i : ℕ) → i < passageCount passages → far passages i < 256
+  pub fars : (i : ℕ) → i < passageCount passages → far passages i < m .n
   pub costs : (i : ℕ) → i < passageCount passages → isClear passages i ≡ true → cost passages i ≤ 1000000
 
-pub carried : (m : Machine) (held passages estimates : List ℕ) (worker : ℕ) → Fitting m held passages estimates → worker < m .k → (heldBy held worker ≡ none → ⊥) → Carried m passages (heldBy held worker)
+pub carried : (m : Machine) (held passages estimates : List ℕ) (worker : ℕ) → Fitting m held passages estimates → worker < m .k → (heldBy held worker ≡ none → ⊥) → Carried m passages estimates (heldBy held worker)
 carried m held passages estimates worker f l h =
     let s = worker-holds (m .mark) held (m .n) (m .k) (f .workers) worker l h in
     record {
       few = f .task .few;
+      table = whole (taskOf m passages estimates) (f .task);
+      goal = f .task .goal-in;
       state = omega (arith, s .0, f .task .states);
       low = label-low (m .label) (m .n) (f .labels) (heldBy held worker) (s .0);
-      fars = λ i q. omega (arith, far-in passages (m .n) (f .task .listed) i q, f .task .states);
+      fars = λ i q. far-in passages (m .n) (f .task .listed) i q;
       costs = λ i q k. cost-in passages (m .n) (f .task .listed) i q k;
     }
 
@@ -201,69 +198,77 @@ pub inside : (m : Machine) (held passages estimates : List ℕ) → Fitting m he
 inside m held passages estimates f i l = omega (arith, near-in passages (m .n) (f .task .listed) i l, f .task .states)
 
 -- one passage leaves the pass as it was, or gives its far end a label
-pub apply-either : (P : Swept → Type 0) (passages : List ℕ) (state label i : ℕ) (w : Swept) → P w
-    → P (swept (labelled (w .machine) (far passages i) (label + cost passages i) i) (w .many + 1)) → P (applyPassage passages state label i w)
+pub apply-either : (P : Swept → Type 0) (passages estimates : List ℕ) (state label i : ℕ) (w : Swept) → P w
+    → P (swept (labelled (w .machine) estimates (far passages i) (label + cost passages i) i) (w .many + 1)) → P (applyPassage passages estimates state label i w)
 unfolding applyPassage
-apply-either P passages state label i w kept set =
+apply-either P passages estimates state label i w kept set =
     cond-either P (eqb (near passages i) state && isClear passages i) _ _
     (cond-either P (lowers (getD (w .machine .mark) (far passages i) 0) (labelOf (w .machine) (far passages i)) (label + cost passages i)) _ _ set kept) kept
 
--- what is read off a machine but its marks, labels and passage numbers, a pass over passages leaves as it was
-pub sweep-leaves : {A : Type 0} (read : Machine → A) → ((m : Machine) (s sum i : ℕ) → read (labelled m s sum i) ≡ read m) → (m : Machine) (passages : List ℕ) (s : ℕ) → read (sweepOf m passages s .machine) ≡ read m
+-- what is read off a machine but its marks, labels, passage numbers and keys, a pass over passages leaves as it was
+pub sweep-leaves : {A : Type 0} (read : Machine → A) → ((m : Machine) (estimates : List ℕ) (s sum i : ℕ) → read (labelled m estimates s sum i) ≡ read m) → (m : Machine) (passages estimates : List ℕ) (s : ℕ) → read (sweepOf m passages estimates s .machine) ≡ read m
 unfolding sweepOf
-sweep-leaves read same m passages s =
-    fold-keeps (applyPassage passages s (labelOf m s)) (λ (w : Swept). read (w .machine))
-    (λ i w. apply-either (λ (v : Swept). read (v .machine) ≡ read (w .machine)) passages s (labelOf m s) i w refl (same (w .machine) (far passages i) (labelOf m s + cost passages i) i)) (swept m 0) (passageCount passages)
+sweep-leaves read same m passages estimates s =
+    fold-keeps (applyPassage passages estimates s (labelOf m s)) (λ (w : Swept). read (w .machine))
+    (λ i w. apply-either (λ (v : Swept). read (v .machine) ≡ read (w .machine)) passages estimates s (labelOf m s) i w refl (same (w .machine) estimates (far passages i) (labelOf m s + cost passages i) i)) (swept m 0) (passageCount passages)
 
 -- what Bring's loop knows at passage i: the machine and the count are those of the fold so far
-pub record Run (m₀ m : Machine) (passages : List ℕ) (s many i : ℕ) : Type 0 where
-  pub done : swept m many ≡ fold (applyPassage passages s (labelOf m₀ s)) (swept m₀ 0) i
+pub record Run (m₀ m : Machine) (passages estimates : List ℕ) (s many i : ℕ) : Type 0 where
+  pub done : swept m many ≡ fold (applyPassage passages estimates s (labelOf m₀ s)) (swept m₀ 0) i
   pub within : i ≤ passageCount passages
   pub counted : many ≤ i
 
-pub run-zero : (m : Machine) (passages : List ℕ) (s : ℕ) → Run m m passages s 0 0
-run-zero m passages s = record { done = sym (fold-zero (applyPassage passages s (labelOf m s)) _); within = omega arith; counted = omega arith }
+pub run-zero : (m : Machine) (passages estimates : List ℕ) (s : ℕ) → Run m m passages estimates s 0 0
+run-zero m passages estimates s = record { done = sym (fold-zero (applyPassage passages estimates s (labelOf m s)) _); within = omega arith; counted = omega arith }
 
-run-end : (m₀ m : Machine) (passages : List ℕ) (s many i : ℕ) → Run m₀ m passages s many i → passageCount passages ≤ i → swept m many ≡ sweepOf m₀ passages s
+run-end : (m₀ m : Machine) (passages estimates : List ℕ) (s many i : ℕ) → Run m₀ m passages estimates s many i → passageCount passages ≤ i → swept m many ≡ sweepOf m₀ passages estimates s
 unfolding sweepOf
-run-end m₀ m passages s many i r l = let q : i ≡ passageCount passages = omega arith in rw (← q) (r .done)
+run-end m₀ m passages estimates s many i r l = let q : i ≡ passageCount passages = omega arith in rw (← q) (r .done)
 
 -- past the last passage: what the workers hold is as it was, and so the state that was held is finished as Bring says
-pub run-brought : (m₀ m : Machine) (passages : List ℕ) (worker s many i : ℕ) → Run m₀ m passages s many i → passageCount passages ≤ i → s ≡ heldBy (handsOf m₀) worker
-    → finish (handsOf m) worker s (swept m many) ≡ bringStep m₀ (handsOf m₀) passages worker
+pub run-brought : (m₀ m : Machine) (passages estimates : List ℕ) (worker s many i : ℕ) → Run m₀ m passages estimates s many i → passageCount passages ≤ i → s ≡ heldBy (handsOf m₀) worker
+    → finish (handsOf m) worker s (swept m many) ≡ bringStep m₀ (handsOf m₀) passages estimates worker
 unfolding bringStep
-run-brought m₀ m passages worker s many i r l e =
-    ap (λ (w : Swept). finish (handsOf (w .machine)) worker s w) (run-end m₀ m passages s many i r l)
-    ∙ ap (λ (held : List ℕ). finish held worker s (sweepOf m₀ passages s)) (sweep-leaves handsOf (λ _ _ _ _. refl) m₀ passages s)
-    ∙ ap (λ (x : ℕ). finish (handsOf m₀) worker x (sweepOf m₀ passages x)) e
+run-brought m₀ m passages estimates worker s many i r l e =
+    ap (λ (w : Swept). finish (handsOf (w .machine)) worker s w) (run-end m₀ m passages estimates s many i r l)
+    ∙ ap (λ (held : List ℕ). finish held worker s (sweepOf m₀ passages estimates s)) (sweep-leaves handsOf (λ _ _ _ _ _. refl) m₀ passages estimates s)
+    ∙ ap (λ (x : ℕ). finish (handsOf m₀) worker x (sweepOf m₀ passages estimates x)) e
 
-module _ (m₀ m : Machine) (passages : List ℕ) (s many i : ℕ) (r : Run m₀ m passages s many i) (l : i < passageCount passages) where
-  more : (m′ : Machine) (many′ : ℕ) → many′ ≤ many + 1 → swept m′ many′ ≡ applyPassage passages s (labelOf m₀ s) i (swept m many) → Run m₀ m′ passages s many′ (i + 1)
+module _ (m₀ m : Machine) (passages estimates : List ℕ) (s many i : ℕ) (r : Run m₀ m passages estimates s many i) (l : i < passageCount passages) where
+  more : (m′ : Machine) (many′ : ℕ) → many′ ≤ many + 1 → swept m′ many′ ≡ applyPassage passages estimates s (labelOf m₀ s) i (swept m many) → Run m₀ m′ passages estimates s many′ (i + 1)
   more m′ many′ h e = record {
-    done = e ∙ ap (applyPassage passages s (labelOf m₀ s) i) (r .done) ∙ sym (fold-more (applyPassage passages s (labelOf m₀ s)) _ i);
+    done = e ∙ ap (applyPassage passages estimates s (labelOf m₀ s) i) (r .done) ∙ sym (fold-more (applyPassage passages estimates s (labelOf m₀ s)) _ i);
     within = omega arith;
     counted = omega (arith, r .counted);
   }
 
+  -- the machine's task is the one that it began with
+  run-task : taskOf m passages estimates ≡ taskOf m₀ passages estimates
+  run-task =
+      ap (λ (w : Swept). taskOf (w .machine) passages estimates) (r .done)
+      ∙ fold-keeps (applyPassage passages estimates s (labelOf m₀ s)) (λ (w : Swept). taskOf (w .machine) passages estimates)
+      (λ j w. apply-either (λ (v : Swept). taskOf (v .machine) passages estimates ≡ taskOf (w .machine) passages estimates) passages estimates s (labelOf m₀ s) j w refl refl) (swept m₀ 0) i
+
   -- the passage is another state's
-  pub run-skip : (near passages i ≡ s → ⊥) → Run m₀ m passages s many (i + 1)
+  pub run-skip : (near passages i ≡ s → ⊥) → Run m₀ m passages estimates s many (i + 1)
   unfolding applyPassage
   run-skip n = more m many (omega arith) (rw (ne-eqb (near passages i) s n))
 
   -- the passage is the held state's: it is blocked, or else its far end keeps its label, or gets the sum
   module _ (e : near passages i ≡ s) where
-    pub run-blocked : isClear passages i ≡ false → Run m₀ m passages s many (i + 1)
+    pub run-blocked : isClear passages i ≡ false → Run m₀ m passages estimates s many (i + 1)
     unfolding applyPassage
     run-blocked k = more m many (omega arith) (rw (eq-eqb (near passages i) s e, k))
 
     module _ (k : isClear passages i ≡ true) (end sum : ℕ) (et : end ≡ far passages i) (es : sum ≡ labelOf m₀ s + cost passages i) where
-      pub run-kept : lowers (getD (m .mark) end 0) (labelOf m end) sum ≡ false → Run m₀ m passages s many (i + 1)
+      pub run-kept : lowers (getD (m .mark) end 0) (labelOf m end) sum ≡ false → Run m₀ m passages estimates s many (i + 1)
       unfolding applyPassage
       run-kept h = more m many (omega arith) (rw (eq-eqb (near passages i) s e, k, ← et, ← es, h))
 
-      pub run-set : lowers (getD (m .mark) end 0) (labelOf m end) sum ≡ true → Run m₀ (labelled m end sum i) passages s (many + 1) (i + 1)
+      pub run-set : (x : ℕ) → x ≡ keyFor m₀ estimates end sum → lowers (getD (m .mark) end 0) (labelOf m end) sum ≡ true
+          → Run m₀ (withKey (withVia (withLabel (withMark m end waiting) end sum) end i) end x) passages estimates s (many + 1) (i + 1)
       unfolding applyPassage
-      run-set h = more (labelled m end sum i) (many + 1) (omega arith) (rw (eq-eqb (near passages i) s e, k, ← et, ← es, h))
+      run-set x q h = more _ (many + 1) (omega arith) (rw (eq-eqb (near passages i) s e, k, ← et, ← es, h, q ∙ ap (λ (t : Task). keyOf sum (t .pull) (estimate estimates (t .n) end (t .goal))) (sym run-task)))
 
 -- path reading, by what it finds
 module _ (m : Machine) (passages estimates buffer : List ℕ) (at : ℕ) where

@@ -12,5 +12,6 @@ pub mod Calls
 pub mod Morning
 pub mod CallLaws
 pub mod Laws
+pub mod KeyLaws
 pub mod ToldLaws
 pub mod LimitedLaws

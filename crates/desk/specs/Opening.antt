@@ -2,7 +2,9 @@
 use mathlib.Core.Bool.{cond}
 use lib.ListN.{set, replicate}
 use lib.Dec.{eqb}
+use Rattle.rule.specs.Task.{estimate}
 use Rattle.rule.specs.Marks.{unseen, waiting, none}
+use Rattle.rule.specs.Rule.{keyOf}
 use Rattle.checks.specs.Opening.{Task, fault}
 use Rattle.desk.specs.declared.Machine.{Machine}
 use Rattle.desk.specs.declared.Reply.the-variants.{Opened}
@@ -10,6 +12,7 @@ use Rattle.desk.specs.declared.Answer.{Answer}
 use Rattle.desk.specs.Reply.{answer, refused}
 
 -- "Opening sets the start open with label 0. All other marks and labels are 0, including places past n; “no passage” and “holds nothing” are 65,535."
+-- order 8: the start's key, "set by opening"; 0 for all other states, which are unseen, and past n
 unfoldable pub openedMachine : Task → Machine
 openedMachine t = record {
   n = t .n;
@@ -23,6 +26,7 @@ openedMachine t = record {
   label = replicate 256 0;
   via = replicate 256 none;
   held = replicate 32 none;
+  key = set (replicate 256 0) (t .start) (keyOf 0 (t .pull) (estimate (t .estimates) (t .n) (t .start) (t .goal)));
 }
 
 -- "opening hands back no machine to use: all numbers 0"
@@ -39,6 +43,7 @@ blankMachine = record {
   label = replicate 256 0;
   via = replicate 256 0;
   held = replicate 32 0;
+  key = replicate 256 0;
 }
 
 unfoldable pub openingOf : Task → Answer

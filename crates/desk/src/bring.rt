@@ -1,6 +1,6 @@
 // Bring: a worker brings back what its state's passages lead to.
 ghost use mathlib.Core.Path.{_≡_};
-ghost use Rattle.desk.specs.Fits.{taskFits};
+ghost use Rattle.desk.specs.Fits.{isSound};
 ghost use Rattle.desk.specs.Bring.{bringOf};
 use super::Answer;
 use super::Machine;
@@ -9,7 +9,7 @@ use super::fits;
 use rule::refusals;
 
 impl Machine {
-    // Bring, where conditions 1 to 4 were looked at before: `sound` says whether they hold.
+    // Bring, where conditions 1 to 4 and the keys were looked at before: `sound` says whether they hold.
     // The machine is written where it stands, as by Take.
     pub fn bring_checked(
         mut self,
@@ -18,7 +18,7 @@ impl Machine {
         estimates: &[u32],
         worker: usize,
     ) -> Answer
-        requires { ⌜ sound ≡ taskFits self (now passages) (now estimates) ⌝ }
+        requires { ⌜ sound ≡ isSound self (now passages) (now estimates) ⌝ }
         ensures { λ r. ⌜ r ≡ bringOf self (now (passages .entry)) (now (estimates .entry)) worker ⌝ }
     {
         let number = fits::call_fault(
@@ -39,6 +39,9 @@ impl Machine {
         }
         let s = rule::wide(self.held[worker]);
         let label = self.label[s];
+        let n = self.n;
+        let goal = self.goal;
+        let pull = self.pull;
         let count = passages.len() / 3;
         let mut many: u32 = 0;
         // The passages of s in slice order. Each far end that is unseen, or open with a greater label, gets its label by way of s.
@@ -52,6 +55,8 @@ impl Machine {
                         self.mark[far] = rule::OPEN;
                         self.label[far] = sum;
                         self.via[far] = i as u16;
+                        let h = rule::estimate(estimates, n, far, goal);
+                        self.key[far] = rule::key(sum, pull, h);
                         many += 1;
                     }
                 }
@@ -68,13 +73,16 @@ impl Machine {
     pub fn bring(self, passages: &[u32], estimates: &[u32], worker: usize) -> Answer
         ensures { λ r. ⌜ r ≡ bringOf self (now (passages .entry)) (now (estimates .entry)) worker ⌝ }
     {
-        let sound = fits::task_fits(
+        let sound = fits::sound(
             self.n,
             self.k,
             self.start,
             self.goal,
             self.pull,
             self.excess,
+            &self.mark,
+            &self.label,
+            &self.key,
             passages,
             estimates,
         );

@@ -4,6 +4,7 @@ ghost use mathlib.Core.Bool.{true, _&&_};
 ghost use Prim.Native.Nat.{_≤_};
 ghost use lib.Dec.{eqb};
 ghost use Rattle.checks.specs.Opening.{task, earlyFault};
+ghost use Rattle.checks.specs.Fits.{keysRight};
 ghost use Rattle.desk.specs.Fits.{rowsFit};
 ghost use Rattle.desk.specs.Laws.{callFault};
 ghost use Rattle.desk.specs.Reply.{refused};
@@ -22,20 +23,26 @@ pub fn refused(m: Machine, number: u8) -> Answer
     }
 }
 
-// Conditions 1 to 4 hold of a machine's numbers and the lent slices.
-pub fn task_fits(
+// Conditions 1 to 4 hold of a machine's numbers and the lent slices, and the stored keys are right.
+pub fn sound<'a>(
     n: usize,
     k: usize,
     start: usize,
     goal: usize,
     pull: u16,
     excess: u16,
+    mark: &'a [u8; 256],
+    label: &'a [u32; 256],
+    key: &'a [u64; 256],
     passages: &[u32],
     estimates: &[u32],
 ) -> bool
-    ensures { λ r. ⌜ r ≡ eqb (earlyFault (task n k start goal pull excess (now (passages .entry)) (now (estimates .entry)))) 0 ⌝ }
+    ensures { λ r. ⌜ r ≡ (eqb (earlyFault (task n k start goal pull excess (now (passages .entry)) (now (estimates .entry)))) 0 && keysRight (now (mark .entry)) (now (label .entry)) (now (key .entry)) (now (estimates .entry)) n goal pull) ⌝ }
 {
-    checks::early_fault(n, k, start, goal, pull, excess, passages, estimates) == 0
+    if checks::early_fault(n, k, start, goal, pull, excess, passages, estimates) != 0 {
+        return false;
+    }
+    checks::keys_right(mark, label, key, estimates, n, goal, pull)
 }
 
 // What a call can change is right: the phase, the marks and labels of the states, and what the workers hold.
@@ -65,7 +72,7 @@ pub fn rows_fit<'a>(
     checks::held_once(mark, held, n, k)
 }
 
-// Both: whether conditions 1 to 4 hold was looked at before, and is `sound`.
+// Both: whether conditions 1 to 4 hold and the keys are right was looked at before, and is `sound`.
 pub fn fits<'a>(
     sound: bool,
     n: usize,

@@ -1,7 +1,7 @@
 // The route desk: a machine that deals junction states out to workers and takes them back, one call at a time.
 // The calls are Machine::opening, take, take_limited, bring, morning and path. Each is defined for every input.
-// A call looks at the task's conditions 1 to 4, which no event changes, and goes on with what it found: a morning looks once for all
-// its events, and `called` serves one event for a caller that looked before.
+// A call looks at the task's conditions 1 to 4 and at the stored keys, which no event makes wrong, and goes on with what it found: a
+// morning looks once for all its events, and `called` serves one event for a caller that looked before.
 mod bring;
 mod coding;
 mod fits;
@@ -16,7 +16,8 @@ pub use mornings::called;
 pub use mornings::morning_fault;
 
 // n, k, start, goal, W and E of the task; the phase, 0 searching, 1 found, 2 no path; for each state a mark, a label
-// and the number of the passage that the label came by; for each worker the state that it holds.
+// and the number of the passage that the label came by; for each worker the state that it holds; for each state its key,
+// 0 where it is unseen.
 pub struct Machine {
     pub n: usize,
     pub k: usize,
@@ -29,6 +30,7 @@ pub struct Machine {
     pub label: [u32; 256],
     pub via: [u16; 256],
     pub held: [u16; 32],
+    pub key: [u64; 256],
 }
 
 pub enum Reply {

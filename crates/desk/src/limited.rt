@@ -64,13 +64,16 @@ impl Machine {
     ) -> Counted
         ensures { λ r. ⌜ r ≡ limitedOf self (now (passages .entry)) (now (estimates .entry)) worker limit ⌝ }
     {
-        let sound = fits::task_fits(
+        let sound = fits::sound(
             self.n,
             self.k,
             self.start,
             self.goal,
             self.pull,
             self.excess,
+            &self.mark,
+            &self.label,
+            &self.key,
             passages,
             estimates,
         );
@@ -93,6 +96,7 @@ impl Machine {
         let limited = dealing::decide_limited(
             &self.mark,
             &self.label,
+            &self.key,
             estimates,
             self.n,
             self.excess,

@@ -5,7 +5,7 @@ ghost use Prim.Native.Nat.{_≤_};
 ghost use lib.ListN.{length};
 ghost use Rattle.laws.specs.Part.{overlaid};
 ghost use Rattle.desk.specs.Reply.{codeOf};
-ghost use Rattle.desk.specs.Fits.{taskFits};
+ghost use Rattle.desk.specs.Fits.{isSound};
 ghost use Rattle.desk.specs.Calls.{call, replies, after};
 ghost use Rattle.desk.specs.Morning.{eventOf, eventsOf, eventsRight, morningFault, morningOf};
 use super::Answer;
@@ -15,10 +15,10 @@ use super::coding;
 use super::fits;
 use rule::refusals;
 
-// The call that an event asks for: Take where its number is below 65,536, else Bring. Conditions 1 to 4 were looked at
-// before, once for all events: `sound` says whether they hold.
+// The call that an event asks for: Take where its number is below 65,536, else Bring. Conditions 1 to 4 and the keys were
+// looked at before, once for all events: `sound` says whether they hold.
 pub fn called(m: Machine, sound: bool, passages: &[u32], estimates: &[u32], event: u32) -> Answer
-    requires { ⌜ sound ≡ taskFits m (now passages) (now estimates) ⌝ }
+    requires { ⌜ sound ≡ isSound m (now passages) (now estimates) ⌝ }
     ensures { λ r. ⌜ r ≡ call (now (passages .entry)) (now (estimates .entry)) m (eventOf event) ⌝ }
 {
     let worker = (event % 65536) as usize;
@@ -62,7 +62,7 @@ pub fn serve(
     events: &[u32],
     row: &mut [u64],
 ) -> Machine
-    requires { ⌜ (sound ≡ taskFits machine (now passages) (now estimates)) × (length (now events) ≤ length (now row)) ⌝ }
+    requires { ⌜ (sound ≡ isSound machine (now passages) (now estimates)) × (length (now events) ≤ length (now row)) ⌝ }
     ensures { λ r. ⌜ r ≡ after (now (passages .entry)) (now (estimates .entry)) machine (eventsOf (now (events .entry))) ⌝ }
     ensures { λ r. ⌜ now (row .exit) ≡ overlaid 0 (map codeOf (replies (now (passages .entry)) (now (estimates .entry)) machine (eventsOf (now (events .entry))))) (now (row .entry)) ⌝ }
 {
@@ -91,13 +91,16 @@ impl Machine {
         if number != 0 {
             return fits::refused(self, number);
         }
-        let sound = fits::task_fits(
+        let sound = fits::sound(
             self.n,
             self.k,
             self.start,
             self.goal,
             self.pull,
             self.excess,
+            &self.mark,
+            &self.label,
+            &self.key,
             passages,
             estimates,
         );

@@ -15,6 +15,7 @@ pub fn blank() -> Machine
     let label = [0u32; 256];
     let via = [0u16; 256];
     let held = [0u16; 32];
+    let key = [0u64; 256];
     Machine {
         n: 0,
         k: 0,
@@ -27,6 +28,7 @@ pub fn blank() -> Machine
         label: label,
         via: via,
         held: held,
+        key: key,
     }
 }
 
@@ -52,6 +54,8 @@ impl Machine {
         let label = [0u32; 256];
         let via = [rule::NONE; 256];
         let held = [rule::NONE; 32];
+        let mut key = [0u64; 256];
+        key[start] = rule::key(0, pull, rule::estimate(estimates, n, start, goal));
         Answer {
             machine: Machine {
                 n: n,
@@ -65,6 +69,7 @@ impl Machine {
                 label: label,
                 via: via,
                 held: held,
+                key: key,
             },
             reply: Reply::Opened,
         }

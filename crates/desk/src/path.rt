@@ -11,13 +11,16 @@ impl Machine {
     pub fn path(self, passages: &[u32], estimates: &[u32], buffer: &mut [u16], at: usize) -> Answer
         ensures { λ r. ⌜ (r ≡ pathOf self (now (passages .entry)) (now (estimates .entry)) (now (buffer .entry)) at .given) × (now (buffer .exit) ≡ pathOf self (now (passages .entry)) (now (estimates .entry)) (now (buffer .entry)) at .buffer) ⌝ }
     {
-        let sound = fits::task_fits(
+        let sound = fits::sound(
             self.n,
             self.k,
             self.start,
             self.goal,
             self.pull,
             self.excess,
+            &self.mark,
+            &self.label,
+            &self.key,
             passages,
             estimates,
         );

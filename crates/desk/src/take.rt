@@ -1,6 +1,6 @@
 // Take: a worker asks for a state.
 ghost use mathlib.Core.Path.{_≡_};
-ghost use Rattle.desk.specs.Fits.{taskFits};
+ghost use Rattle.desk.specs.Fits.{isSound};
 ghost use Rattle.desk.specs.Take.{takeOf};
 use super::Answer;
 use super::Machine;
@@ -10,7 +10,7 @@ use dealing::Decision;
 use rule::refusals;
 
 impl Machine {
-    // Take, where conditions 1 to 4 were looked at before: `sound` says whether they hold.
+    // Take, where conditions 1 to 4 and the keys were looked at before: `sound` says whether they hold.
     // The machine is written where it stands, and handed back once: a function of its own for a step would copy it in and out.
     pub fn take_checked(
         mut self,
@@ -19,7 +19,7 @@ impl Machine {
         estimates: &[u32],
         worker: usize,
     ) -> Answer
-        requires { ⌜ sound ≡ taskFits self (now passages) (now estimates) ⌝ }
+        requires { ⌜ sound ≡ isSound self (now passages) (now estimates) ⌝ }
         ensures { λ r. ⌜ r ≡ takeOf self (now (passages .entry)) (now (estimates .entry)) worker ⌝ }
     {
         let number = fits::call_fault(
@@ -41,6 +41,7 @@ impl Machine {
         let decision = dealing::decide(
             &self.mark,
             &self.label,
+            &self.key,
             estimates,
             self.n,
             self.excess,
@@ -74,13 +75,16 @@ impl Machine {
     pub fn take(self, passages: &[u32], estimates: &[u32], worker: usize) -> Answer
         ensures { λ r. ⌜ r ≡ takeOf self (now (passages .entry)) (now (estimates .entry)) worker ⌝ }
     {
-        let sound = fits::task_fits(
+        let sound = fits::sound(
             self.n,
             self.k,
             self.start,
             self.goal,
             self.pull,
             self.excess,
+            &self.mark,
+            &self.label,
+            &self.key,
             passages,
             estimates,
         );

@@ -70,6 +70,9 @@ vias κs a x y p q i = (same p q i, x .1)
 pub held-states : Fixes f.row.held_states.ended f.row.held_states.Reads.Learnt
 held-states κs a x y p q i = (same p q i, x .1)
 
+pub keys : Fixes f.row.keys.ended f.row.keys.Reads.Learnt
+keys κs a x y p q i = (same p q i, x .1)
+
 pub unpack : Fixes f.row.unpack.ended f.row.unpack.Reads.Learnt
 unpack κs a x y p q i = (same p q i, x .1)
 
@@ -90,6 +93,15 @@ put-vias κs a x y p q i = (tt, (same p q i, (tt, tt)))
 
 pub put-held : Fixes f.row.put_held.ended f.row.put_held.Reads.Learnt
 put-held κs a x y p q i = (tt, (same p q i, (tt, tt)))
+
+pub low-half : Answers f.row.low_half.ended f.row.low_half.Reads.Asked f.row.low_half.Reads.Learnt
+low-half = (λ κs a. tt, λ κs a x y p q i. (same p q i, x .1))
+
+pub high-half : Answers f.row.high_half.ended f.row.high_half.Reads.Asked f.row.high_half.Reads.Learnt
+high-half = (λ κs a. tt, λ κs a x y p q i. (same p q i, x .1))
+
+pub put-keys : Fixes f.row.put_keys.ended f.row.put_keys.Reads.Learnt
+put-keys κs a x y p q i = (tt, (same p q i, (tt, tt)))
 
 pub put-changing : Fixes f.row.put_changing.ended f.row.put_changing.Reads.Learnt
 put-changing κs a x y p q i = (tt, (same p q i, (tt, tt)))

@@ -1,7 +1,8 @@
--- A machine as a flat row of 807 numbers of 32 bits: n, k, start, goal, W, E, phase; 256 marks, 256 labels, 256 passage numbers; 32 held states.
+-- A machine as a flat row of 1,319 numbers of 32 bits: n, k, start, goal, W, E, phase; 256 marks, 256 labels, 256 passage numbers; 32 held states; 256 keys of 64 bits, each as two
+-- numbers, its low half first.
 use mathlib.Core.Bool.{Bool, _&&_}
-use mathlib.Core.List.{List, _∷_, _++_}
-use Prim.Native.Nat.{ℕ, _+_}
+use mathlib.Core.List.{List, [], _∷_, _++_}
+use Prim.Native.Nat.{ℕ, _+_, _*_, _/_, _%_}
 use lib.ListN.{length, getD}
 use lib.Dec.{leb, eqb}
 use Rattle.laws.specs.All.{all}
@@ -22,14 +23,17 @@ viasAt = 519
 abbrev pub heldAt : ℕ
 heldAt = 775
 
+abbrev pub keysAt : ℕ
+keysAt = 807
+
 abbrev pub rowLength : ℕ
-rowLength = 807
+rowLength = 1319
 
 -- the numbers from a place on are at most so large
 unfoldable pub atMost : List ℕ → ℕ → ℕ → ℕ → Bool
 atMost row from count most = all (λ i. leb (getD row (from + i) 0) most) count
 
--- a row holds a machine: it has its length, and each number is small enough for its field
+-- a row holds a machine: it has its length, and each number is small enough for its field; a half of a key has 32 bits, as each number of a lent row has
 unfoldable pub isRow : List ℕ → Bool
 isRow row =
     eqb (length row) rowLength
@@ -37,11 +41,16 @@ isRow row =
     && (atMost row 6 1 255
     && (atMost row marksAt 256 255
     && (atMost row viasAt 256 65535
-    && atMost row heldAt 32 65535))))
+    && (atMost row heldAt 32 65535
+    && atMost row keysAt 512 4294967295)))))
 
 -- the part of a row from a place on
 unfoldable pub part : List ℕ → ℕ → ℕ → List ℕ
 part row from count = made (λ i. getD row (from + i) 0) count
+
+-- the key of s, from its two halves
+abbrev pub keyFrom : List ℕ → ℕ → ℕ
+keyFrom row s = getD row (keysAt + 2 * s) 0 + 4294967296 * getD row (keysAt + 2 * s + 1) 0
 
 unfoldable pub unpacked : List ℕ → Machine
 unpacked row = record {
@@ -56,11 +65,17 @@ unpacked row = record {
   label = part row labelsAt 256;
   via = part row viasAt 256;
   held = part row heldAt 32;
+  key = made (keyFrom row) 256;
 }
+
+-- the halves of some keys, in a row
+unfoldable pub halves : List ℕ → List ℕ
+halves [] = []
+halves (x ∷ xs) = x % 4294967296 ∷ (x / 4294967296 ∷ halves xs)
 
 -- the numbers of a machine that a call can change, and the row with them; its first six numbers are the task's, and stay
 unfoldable pub changing : Machine → List ℕ
-changing m = m .phase ∷ (m .mark ++ (m .label ++ (m .via ++ m .held)))
+changing m = m .phase ∷ (m .mark ++ (m .label ++ (m .via ++ (m .held ++ halves (m .key)))))
 
 unfoldable pub changed : List ℕ → Machine → List ℕ
 changed row m = overlaid 6 (changing m) row

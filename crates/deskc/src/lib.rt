@@ -33,7 +33,7 @@ pub extern "C" fn desk_open(
     ensures { λ r. ⌜ r ≡ openRow (task n k start goal pull excess (now (passages .entry)) (now (estimates .entry))) (now (machine .entry)) .code ⌝ }
     ensures { λ r. ⌜ now (machine .exit) ≡ openRow (task n k start goal pull excess (now (passages .entry)) (now (estimates .entry))) (now (machine .entry)) .row ⌝ }
 {
-    if machine.len() != 807 {
+    if machine.len() != 1319 {
         return row::unfit();
     }
     let w = weights::clamp(pull);

@@ -2,14 +2,15 @@
 ghost use mathlib.Core.Path.{_≡_};
 ghost use mathlib.Core.Bool.{true};
 ghost use mathlib.Core.List.{[], _∷_};
-ghost use Prim.Native.Nat.{ℕ, _+_, _≤_, _<_};
+ghost use Prim.Native.Nat.{ℕ, _+_, _/_, _%_, _≤_, _<_};
 ghost use lib.ListN.{length};
 ghost use Rattle.laws.specs.Part.{overlaid};
+ghost use Rattle.laws.specs.Fill.{made};
 ghost use Rattle.desk.specs.declared.Reply.the-variants.{Took, Refused};
 ghost use Rattle.rule.specs.Refusals.{unfit};
 ghost use Rattle.desk.specs.Reply.{codeOf};
 ghost use Rattle.desk.specs.ToldLaws.{taken};
-ghost use Rattle.deskc.specs.Row.{atMost, isRow, part, unpacked, changed};
+ghost use Rattle.deskc.specs.Row.{atMost, isRow, part, keyFrom, unpacked, halves, changed};
 use desk::Machine;
 use desk::Reply;
 
@@ -34,11 +35,11 @@ pub fn at_most(row: &[u32], from: usize, count: usize, most: u32) -> bool
     right
 }
 
-// A row holds a machine.
+// A row holds a machine. Its keys need no test: each half has 32 bits, as every number of a row has.
 pub fn is_row(row: &[u32]) -> bool
     ensures { λ r. ⌜ r ≡ isRow (now (row .entry)) ⌝ }
 {
-    if row.len() != 807 {
+    if row.len() != 1319 {
         return false;
     }
     if !at_most(row, 4, 2, 65535) {
@@ -104,6 +105,21 @@ pub fn held_states(row: &[u32]) -> [u16; 32]
     held
 }
 
+// The keys, each from its two halves.
+pub fn keys(row: &[u32]) -> [u64; 256]
+    requires { ⌜ isRow (now row) ≡ true ⌝ }
+    ensures { λ r. ⌜ r ≡ made (keyFrom (now (row .entry))) 256 ⌝ }
+{
+    let mut key = [0u64; 256];
+    for s in 0..256 {
+        let at = 807 + 2 * s;
+        let low = row[at] as u64;
+        let high = row[at + 1] as u64;
+        key[s] = low + 4294967296 * high;
+    }
+    key
+}
+
 // The machine that a row holds.
 pub fn unpack(row: &[u32]) -> Machine
     requires { ⌜ isRow (now row) ≡ true ⌝ }
@@ -113,6 +129,7 @@ pub fn unpack(row: &[u32]) -> Machine
     let label = labels(row);
     let via = vias(row);
     let held = held_states(row);
+    let key = keys(row);
     Machine {
         n: row[0] as usize,
         k: row[1] as usize,
@@ -125,12 +142,13 @@ pub fn unpack(row: &[u32]) -> Machine
         label: label,
         via: via,
         held: held,
+        key: key,
     }
 }
 
 // Numbers of 8 bits, written from a place on.
 pub fn put_marks(row: &mut [u32], mark: &[u8; 256])
-    requires { ⌜ (length (now row) ≡ 807) × (length (now mark) ≡ 256) ⌝ }
+    requires { ⌜ (length (now row) ≡ 1319) × (length (now mark) ≡ 256) ⌝ }
     ensures { λ _. ⌜ now (row .exit) ≡ overlaid 7 (now (mark .entry)) (now (row .entry)) ⌝ }
 {
     for s in 0..256 {
@@ -154,7 +172,7 @@ pub fn wide16(x: u16) -> u32
 
 // The labels, written.
 pub fn put_labels(row: &mut [u32], label: &[u32; 256])
-    requires { ⌜ (length (now row) ≡ 807) × (length (now label) ≡ 256) ⌝ }
+    requires { ⌜ (length (now row) ≡ 1319) × (length (now label) ≡ 256) ⌝ }
     ensures { λ _. ⌜ now (row .exit) ≡ overlaid 263 (now (label .entry)) (now (row .entry)) ⌝ }
 {
     for s in 0..256 {
@@ -164,7 +182,7 @@ pub fn put_labels(row: &mut [u32], label: &[u32; 256])
 
 // The passage numbers, written.
 pub fn put_vias(row: &mut [u32], via: &[u16; 256])
-    requires { ⌜ (length (now row) ≡ 807) × (length (now via) ≡ 256) ⌝ }
+    requires { ⌜ (length (now row) ≡ 1319) × (length (now via) ≡ 256) ⌝ }
     ensures { λ _. ⌜ now (row .exit) ≡ overlaid 519 (now (via .entry)) (now (row .entry)) ⌝ }
 {
     for s in 0..256 {
@@ -174,7 +192,7 @@ pub fn put_vias(row: &mut [u32], via: &[u16; 256])
 
 // The held states, written.
 pub fn put_held(row: &mut [u32], held: &[u16; 32])
-    requires { ⌜ (length (now row) ≡ 807) × (length (now held) ≡ 32) ⌝ }
+    requires { ⌜ (length (now row) ≡ 1319) × (length (now held) ≡ 32) ⌝ }
     ensures { λ _. ⌜ now (row .exit) ≡ overlaid 775 (now (held .entry)) (now (row .entry)) ⌝ }
 {
     for w in 0..32 {
@@ -182,9 +200,37 @@ pub fn put_held(row: &mut [u32], held: &[u16; 32])
     }
 }
 
+// The low half of a number of 64 bits.
+pub fn low_half(x: u64) -> u32
+    ensures { λ r. ⌜ r ≡ x % 4294967296 ⌝ }
+{
+    (x % 4294967296) as u32
+}
+
+// Its high half.
+pub fn high_half(x: u64) -> u32
+    ensures { λ r. ⌜ r ≡ x / 4294967296 ⌝ }
+{
+    (x / 4294967296) as u32
+}
+
+// The keys, written: of each its low half, then its high one.
+pub fn put_keys(row: &mut [u32], key: &[u64; 256])
+    requires { ⌜ (length (now row) ≡ 1319) × (length (now key) ≡ 256) ⌝ }
+    ensures { λ _. ⌜ now (row .exit) ≡ overlaid 807 (halves (now (key .entry))) (now (row .entry)) ⌝ }
+{
+    for s in 0..256 {
+        let at = 807 + 2 * s;
+        let low = low_half(key[s]);
+        let high = high_half(key[s]);
+        row[at] = low;
+        row[at + 1] = high;
+    }
+}
+
 // What a call can change: the phase and the numbers of states and workers.
 pub fn put_changing(row: &mut [u32], m: Machine)
-    requires { ⌜ length (now row) ≡ 807 ⌝ }
+    requires { ⌜ length (now row) ≡ 1319 ⌝ }
     ensures { λ _. ⌜ now (row .exit) ≡ changed (now (row .entry)) m ⌝ }
 {
     row[6] = wide8(m.phase);
@@ -192,6 +238,7 @@ pub fn put_changing(row: &mut [u32], m: Machine)
     put_labels(row, &m.label);
     put_vias(row, &m.via);
     put_held(row, &m.held);
+    put_keys(row, &m.key);
 }
 
 // What a Take changes: the mark of the state that it deals and what the worker holds, or the phase. With any other reply nothing is written.
@@ -217,7 +264,7 @@ pub fn put_taken(row: &mut [u32], worker: usize, reply: Reply)
 
 // What a call can't change: the task's six numbers.
 pub fn put_head(row: &mut [u32], m: Machine)
-    requires { ⌜ (length (now row) ≡ 807) × (((m .n < 4294967296) × (m .k < 4294967296)) × ((m .start < 4294967296) × (m .goal < 4294967296))) ⌝ }
+    requires { ⌜ (length (now row) ≡ 1319) × (((m .n < 4294967296) × (m .k < 4294967296)) × ((m .start < 4294967296) × (m .goal < 4294967296))) ⌝ }
     ensures { λ _. ⌜ now (row .exit) ≡ overlaid 0 (m .n ∷ m .k ∷ m .start ∷ m .goal ∷ m .pull ∷ m .excess ∷ []) (now (row .entry)) ⌝ }
 {
     row[0] = m.n as u32;

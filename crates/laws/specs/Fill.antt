@@ -1,13 +1,13 @@
 -- A buffer filled from a place on, front to back: lists by their elements, and lists written over a buffer one after the other.
 -- Assumes nothing.
 use mathlib.Core.Path.{_≡_, refl, sym, ap, _∙_}
-use mathlib.Core.List.{List, [], _∷_, _++_, append-assoc}
+use mathlib.Core.List.{List, [], _∷_, _++_, append-nil, append-assoc}
 use Prim.Native.Nat.{ℕ, zero, suc, _+_, _≤_, _<_}
 use native.Mathlib.Nat.{add-zero, add-assoc, zero-add}
 use native.Mathlib.Decide.{ℕ-discrete}
 use native.Mathlib.Numerals.{add-one}
 use native.Mathlib.Omega.{arith}
-use lib.ListN.{length, getD, set, take, drop, List·getD-append, length-append, length-take, length-drop, length-set, take-append-drop}
+use lib.ListN.{length, getD, set, take, drop, List·getD-append, length-append, length-take, length-drop, length-set, drop-of-length-le, take-append-drop}
 use lib.Seq.{getD-at, set-split, take-all, take-at, drop-at, drop-drop, ext-getD, getD-set-same, getD-set-other}
 use Rattle.laws.specs.Part.{overlaid}
 
@@ -94,10 +94,13 @@ filled-front f l₀ l i w h v e = rw zero-add at (filled-more f 0 l₀ l i w (om
 pub filled-end : {X : Type 0} (f : ℕ → X) (at n : ℕ) (l₀ l : List X) (i : ℕ) → Filled f at l₀ l i → i ≤ n → n ≤ i → l ≡ overlaid at (made f n) l₀
 filled-end f at n l₀ l i w a b = let q : i ≡ n = omega arith in rw q at (w .done)
 
+-- a list as long as the one that it is written over is all that is left
+pub overlaid-whole : {X : Type 0} (xs l : List X) → length xs ≡ length l → overlaid 0 xs l ≡ xs
+overlaid-whole xs l e = rw (drop-of-length-le l {i = 0 + length xs} (omega arith), append-nil)
+
 -- all places filled
 pub filled-whole : {X : Type 0} (f : ℕ → X) (n : ℕ) (l₀ l : List X) (i : ℕ) → Filled f 0 l₀ l i → i ≤ n → n ≤ i → length l₀ ≡ n → l ≡ made f n
-filled-whole f n l₀ l i w a b e =
-    sym (take-all (length (made f n)) l (omega (arith, w .long, made-length f n))) ∙ ap (take (length (made f n))) (filled-end f 0 n l₀ l i w a b) ∙ overlaid-front (made f n) l₀
+filled-whole f n l₀ l i w a b e = filled-end f 0 n l₀ l i w a b ∙ overlaid-whole (made f n) l₀ (made-length f n ∙ sym e)
 
 -- a list made of f, with the one place stored at which g differs, is made of g
 pub made-set : {X : Type 0} (f g : ℕ → X) (n i : ℕ) → i < n → ((x : ℕ) → x < n → (x ≡ i → ⊥) → f x ≡ g x) → set (made f n) i (g i) ≡ made g n

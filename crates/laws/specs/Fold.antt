@@ -2,7 +2,7 @@
 -- Assumes nothing.
 use mathlib.Core.Path.{_≡_, refl, ap, _∙_}
 use mathlib.Core.Logic.{⊎-elim}
-use Prim.Native.Nat.{ℕ, zero, suc, _+_, _≤_}
+use Prim.Native.Nat.{ℕ, zero, suc, _+_, _≤_, _<_}
 use native.Mathlib.Nat.{le-of-suc-le-suc, eq-or-lt-of-le}
 use native.Mathlib.Numerals.{add-one}
 use native.Mathlib.Omega.{arith}
@@ -25,6 +25,12 @@ pub fold-keeps : {S T : Type 0} (f : ℕ → S → S) (g : S → T) → ((i : �
 unfolding fold
 fold-keeps f g h a zero = refl
 fold-keeps f g h a (suc n) = h n (fold f a n) ∙ fold-keeps f g h a n
+
+-- what holds at the start and stays through each turn holds at the end
+pub fold-stays : {S : Type 0} (f : ℕ → S → S) (P : S → Type 0) (a : S) (n : ℕ) → ((i : ℕ) (s : S) → i < n → P s → P (f i s)) → P a → P (fold f a n)
+unfolding fold
+fold-stays f P a zero h p = p
+fold-stays f P a (suc n) h p = h n (fold f a n) (omega arith) (fold-stays f P a n (λ i s l. h i s (omega arith)) p)
 
 -- a state that no turn changes any more is the last one
 pub fold-still : {S : Type 0} (f : ℕ → S → S) (a : S) (i n : ℕ) → i ≤ n → ((j : ℕ) → f j (fold f a i) ≡ fold f a i) → fold f a n ≡ fold f a i

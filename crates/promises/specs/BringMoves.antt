@@ -52,8 +52,8 @@ abbrev pub Counts : List ℕ → ℕ → Type 0
 Counts passages i = (i < passageCount passages) × (isClear passages i ≡ true)
 
 -- the machine after passage i has given its far end a label
-abbrev pub lowered : List ℕ → ℕ → ℕ → Machine → Machine
-lowered passages l i m = labelled m (far passages i) (l + cost passages i) i
+abbrev pub lowered : List ℕ → List ℕ → ℕ → ℕ → Machine → Machine
+lowered passages estimates l i m = labelled m estimates (far passages i) (l + cost passages i) i
 
 -- whether it does
 abbrev lowersFar : List ℕ → ℕ → ℕ → Machine → Bool
@@ -116,19 +116,19 @@ module _ {passages estimates : List ℕ} {p l i : ℕ} {m : Machine} (z : Passin
     low : q < 256
     low = omega (arith, z .sure .task .right .states, z .sure .task .consistent .ends i j)
 
-    pub lowered-now : markOf (lowered passages l i m) q ≡ 1
+    pub lowered-now : markOf (lowered passages estimates l i m) q ≡ 1
     lowered-now = getD-set-same (m .mark) q waiting 0 (omega (arith, low, z .sure .sized .marks))
 
-    pub lowered-else : (x : ℕ) → x ≢ q → markOf (lowered passages l i m) x ≡ markOf m x
+    pub lowered-else : (x : ℕ) → x ≢ q → markOf (lowered passages estimates l i m) x ≡ markOf m x
     lowered-else x d = getD-set-other (m .mark) q x waiting 0 d
 
-    new : labelOf (lowered passages l i m) q ≡ l + cost passages i
+    new : labelOf (lowered passages estimates l i m) q ≡ l + cost passages i
     new = getD-set-same (m .label) q (l + cost passages i) 0 (omega (arith, low, z .sure .sized .labels))
 
-    pub label-else : (x : ℕ) → x ≢ q → labelOf (lowered passages l i m) x ≡ labelOf m x
+    pub label-else : (x : ℕ) → x ≢ q → labelOf (lowered passages estimates l i m) x ≡ labelOf m x
     label-else x d = getD-set-other (m .label) q x (l + cost passages i) 0 d
 
-    way : viaOf (lowered passages l i m) q ≡ i
+    way : viaOf (lowered passages estimates l i m) q ≡ i
     way = getD-set-same (m .via) q i 0 (omega (arith, low, z .sure .sized .vias))
 
     -- it was unseen or open, and where it was seen its label was greater
@@ -145,11 +145,11 @@ module _ {passages estimates : List ℕ} {p l i : ℕ} {m : Machine} (z : Passin
     away : q ≢ m .start
     away k = omega (arith, less (omega (arith, z .sure .good .frontier .seen, ap (markOf m) k)), z .sure .good .chained .root, ap (labelOf m) k)
 
-    touch-step : StepAt passages estimates m (during passages p i m) (during passages p i (lowered passages l i m))
+    touch-step : StepAt passages estimates m (during passages p i m) (during passages p i (lowered passages estimates l i m))
     touch-step = touch q (record {
       inside = z .sure .task .consistent .ends i j .1;
       kept = λ k. absurd (omega (arith, free));
-      opened = λ k. (lowered-now, midway-other passages (lowered passages l i m) p i q apart ∙ applied-none passages (lowered passages l i m) q (omega (arith, lowered-now)));
+      opened = λ k. (lowered-now, midway-other passages (lowered passages estimates l i m) p i q apart ∙ applied-none passages (lowered passages estimates l i m) q (omega (arith, lowered-now)));
       front = λ k. omega (arith, less k, new);
       link = λ k. inr (record {
         by = i;
@@ -167,11 +167,11 @@ module _ {passages estimates : List ℕ} {p l i : ℕ} {m : Machine} (z : Passin
         via = getD-set-other (m .via) q x i 0 d;
         front = ap (100 *_) (label-else x d);
         bound = ap (100 *_) (label-else x d);
-        place = ap (cond (eqb x p) i) (applied-same passages m (lowered passages l i m) x (lowered-else x d));
+        place = ap (cond (eqb x p) i) (applied-same passages m (lowered passages estimates l i m) x (lowered-else x d));
       };
     })
 
-    touched : Passing passages estimates p l i (lowered passages l i m)
+    touched : Passing passages estimates p l i (lowered passages estimates l i m)
     touched = record {
       sure = record {
         task = z .sure .task;
@@ -180,6 +180,7 @@ module _ {passages estimates : List ℕ} {p l i : ℕ} {m : Machine} (z : Passin
           labels = length-set (m .label) q (l + cost passages i) ∙ z .sure .sized .labels;
           vias = length-set (m .via) q i ∙ z .sure .sized .vias;
           workers = z .sure .sized .workers;
+          keys = length-set (m .key) q _ ∙ z .sure .sized .keys;
         };
         marks = at-or q (omega (arith, lowered-now)) (λ x d. omega (arith, lowered-else x d, z .sure .marks x));
         good = good-on passages estimates m (z .sure .task) (z .sure .good) touch-step;
@@ -188,44 +189,44 @@ module _ {passages estimates : List ℕ} {p l i : ℕ} {m : Machine} (z : Passin
       label = label-else p (λ k. apart (sym k)) ∙ z .label;
     }
 
-    arrived : Reached (m .excess) (graph (taskOf m passages estimates)) (during passages p i (lowered passages l i m)) p i
+    arrived : Reached (m .excess) (graph (taskOf m passages estimates)) (during passages p i (lowered passages estimates l i m)) p i
     arrived = (omega (arith, lowered-now), inl (omega (arith, new, touched .label, mul-le-mul-right (cost passages i) (z .sure .task .consistent .hundred))))
 
 passes-lowered : {passages estimates : List ℕ} {p l i : ℕ} {m : Machine} → Passing passages estimates p l i m → Counts passages i → near passages i ≡ p
-    → lowersFar passages l i m ≡ true → Passing passages estimates p l (suc i) (lowered passages l i m)
+    → lowersFar passages l i m ≡ true → Passing passages estimates p l (suc i) (lowered passages estimates l i m)
 passes-lowered z j from e = advanced (touched z j from e) (λ _ _. arrived z j from e)
 
 -- what a passage that gives a label keeps, the whole pass keeps
 abbrev pub Keeps : List ℕ → List ℕ → ℕ → ℕ → (Machine → Type 0) → Type 0
 Keeps passages estimates p l P =
     (i : ℕ) (m : Machine) → Passing passages estimates p l i m → Counts passages i → near passages i ≡ p → lowersFar passages l i m ≡ true
-    → P m → P (lowered passages l i m)
+    → P m → P (lowered passages estimates l i m)
 
 module _ (passages estimates : List ℕ) (p l : ℕ) (P : Machine → Type 0) (keeps : Keeps passages estimates p l P) where
   abbrev PassedTo : ℕ → Machine → Type 0
   PassedTo i m = Passing passages estimates p l i m × P m
 
   -- one passage
-  passes : (i : ℕ) (w : Swept) → i < passageCount passages → PassedTo i (w .machine) → PassedTo (suc i) (applyPassage passages p l i w .machine)
+  passes : (i : ℕ) (w : Swept) → i < passageCount passages → PassedTo i (w .machine) → PassedTo (suc i) (applyPassage passages estimates p l i w .machine)
   unfolding applyPassage
   passes i w j (z, a) = mine (eqb (near passages i) p) refl (isClear passages i) refl
     where
       lowering : near passages i ≡ p → isClear passages i ≡ true → (b : Bool) → lowersFar passages l i (w .machine) ≡ b
-          → PassedTo (suc i) (cond b (swept (lowered passages l i (w .machine)) (w .many + 1)) w .machine)
+          → PassedTo (suc i) (cond b (swept (lowered passages estimates l i (w .machine)) (w .many + 1)) w .machine)
       lowering f k true e = (passes-lowered z (j, k) f e, keeps i (w .machine) z (j, k) f e a)
       lowering f k false e = (passes-kept z e, a)
 
       mine : (b : Bool) → eqb (near passages i) p ≡ b → (clear : Bool) → isClear passages i ≡ clear
-          → PassedTo (suc i) (cond (b && clear) (reach (far passages i) (l + cost passages i) i w) w .machine)
+          → PassedTo (suc i) (cond (b && clear) (reach estimates (far passages i) (l + cost passages i) i w) w .machine)
       mine true e true k = lowering (eqb-true (near passages i) p e) k (lowersFar passages l i (w .machine)) refl
       mine true e false k = (passes-blocked z k, a)
       mine false e clear k = (passes-other z (eqb-false (near passages i) p e), a)
 
   -- all passages below i
-  pass : (w : Swept) → PassedTo 0 (w .machine) → (i : ℕ) → i ≤ passageCount passages → PassedTo i (fold (applyPassage passages p l) w i .machine)
+  pass : (w : Swept) → PassedTo 0 (w .machine) → (i : ℕ) → i ≤ passageCount passages → PassedTo i (fold (applyPassage passages estimates p l) w i .machine)
   unfolding fold
   pass w a zero k = a
-  pass w a (suc i) k = passes i (fold (applyPassage passages p l) w i) k (pass w a i (omega arith))
+  pass w a (suc i) k = passes i (fold (applyPassage passages estimates p l) w i) k (pass w a i (omega arith))
 
 module _ {passages estimates : List ℕ} {m : Machine} (z : Sure passages estimates m) (p : ℕ) (o : markOf m p ≡ 2) where
   -- a pass begins with none of p's passages applied
@@ -243,7 +244,7 @@ module _ {passages estimates : List ℕ} {m : Machine} (z : Sure passages estima
   }
 
   pub sweep-keeps : (P : Machine → Type 0) → Keeps passages estimates p (labelOf m p) P → P m
-      → Passing passages estimates p (labelOf m p) (passageCount passages) (sweepOf m passages p .machine) × P (sweepOf m passages p .machine)
+      → Passing passages estimates p (labelOf m p) (passageCount passages) (sweepOf m passages estimates p .machine) × P (sweepOf m passages estimates p .machine)
   unfolding sweepOf
   sweep-keeps P keeps a = pass passages estimates p (labelOf m p) P keeps (swept m 0) (pass-zero, a) (passageCount passages) (omega arith)
 
@@ -286,6 +287,7 @@ module _ {passages estimates : List ℕ} {p l : ℕ} {m : Machine} (z : Passing 
       labels = z .sure .sized .labels;
       vias = z .sure .sized .vias;
       workers = length-set (m .held) worker none ∙ z .sure .sized .workers;
+      keys = z .sure .sized .keys;
     };
     marks = at-or p (omega (arith, finished-now)) (λ x d. omega (arith, finished-else x d, z .sure .marks x));
     good = good-on passages estimates m (z .sure .task) (z .sure .good) finish-step;

@@ -30,11 +30,11 @@ use Rattle.desk.specs.CallLaws.{morning-refused, morning-served}
 use Rattle.promises.specs.Progress.{Chosen, chosen}
 
 -- what a Bring of the state p answers. No passage changes what the workers hold, so that it may as well be read past the last
-abbrev pub brought : Machine → List ℕ → ℕ → ℕ → Answer
-brought m passages worker p = let w = sweepOf m passages p in finish (handsOf (w .machine)) worker p w
+abbrev pub brought : Machine → List ℕ → List ℕ → ℕ → ℕ → Answer
+brought m passages estimates worker p = let w = sweepOf m passages estimates p in finish (handsOf (w .machine)) worker p w
 
-brought-is : (m : Machine) (passages : List ℕ) (worker p : ℕ) → brought m passages worker p ≡ finish (handsOf m) worker p (sweepOf m passages p)
-brought-is m passages worker p = ap (λ (held : List ℕ). finish held worker p (sweepOf m passages p)) (sweep-leaves handsOf (λ _ _ _ _. refl) m passages p)
+brought-is : (m : Machine) (passages estimates : List ℕ) (worker p : ℕ) → brought m passages estimates worker p ≡ finish (handsOf m) worker p (sweepOf m passages estimates p)
+brought-is m passages estimates worker p = ap (λ (held : List ℕ). finish held worker p (sweepOf m passages estimates p)) (sweep-leaves handsOf (λ _ _ _ _ _. refl) m passages estimates p)
 
 module _ (passages estimates : List ℕ) (m : Machine) (P : Answer → Type 0) where
   -- the state that a worker of a machine that fits holds is out
@@ -45,15 +45,15 @@ module _ (passages estimates : List ℕ) (m : Machine) (P : Answer → Type 0) w
   -- what holds of a refusal, of each step of Take, and of a Bring
   pub call-either : ((number : ℕ) → number ≤ 11 → P (refused m number))
       → ((worker : ℕ) → Admitted m (handsOf m) passages estimates worker → heldBy (handsOf m) worker ≡ none → (d : Decision) → Chosen (m .goal) (m .pull) (boardOf m estimates) d → P (act m (handsOf m) worker d))
-      → ((worker : ℕ) → Admitted m (handsOf m) passages estimates worker → markOf m (heldBy (handsOf m) worker) ≡ out → P (brought m passages worker (heldBy (handsOf m) worker)))
+      → ((worker : ℕ) → Admitted m (handsOf m) passages estimates worker → markOf m (heldBy (handsOf m) worker) ≡ out → P (brought m passages estimates worker (heldBy (handsOf m) worker)))
       → (e : Event) → P (call passages estimates m e)
   unfolding takeOf takeStep bringOf bringStep
   call-either r t b (take worker) =
       admitted-either m (handsOf m) passages estimates P worker (eqb (heldBy (handsOf m) worker) none) (takeStep m (handsOf m) estimates worker) r
       (λ a e. t worker a (eqb-true (heldBy (handsOf m) worker) none e) (decision (m .goal) (m .pull) (boardOf m estimates)) (chosen (m .goal) (m .pull) (boardOf m estimates)))
   call-either r t b (bring worker) =
-      admitted-either m (handsOf m) passages estimates P worker (not (eqb (heldBy (handsOf m) worker) none)) (bringStep m (handsOf m) passages worker) r
-      (λ a e. subst P (brought-is m passages worker (heldBy (handsOf m) worker)) (b worker a (held-out worker a (eqb-false (heldBy (handsOf m) worker) none (not-true (eqb (heldBy (handsOf m) worker) none) e)))))
+      admitted-either m (handsOf m) passages estimates P worker (not (eqb (heldBy (handsOf m) worker) none)) (bringStep m (handsOf m) passages estimates worker) r
+      (λ a e. subst P (brought-is m passages estimates worker (heldBy (handsOf m) worker)) (b worker a (held-out worker a (eqb-false (heldBy (handsOf m) worker) none (not-true (eqb (heldBy (handsOf m) worker) none) e)))))
 
 -- a morning is refused with 16 or 18, if at all
 morning-never : (events : List ℕ) (places : ℕ) → morningFault events places ≢ nothingOut

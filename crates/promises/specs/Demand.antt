@@ -1,6 +1,6 @@
 -- Demand 3, as statements about the desk's definitions: days from an accepted opening, routes, and what is promised of them.
 use mathlib.Core.Path.{_≡_}
-use mathlib.Core.Bool.{cond, true}
+use mathlib.Core.Bool.{cond, true, _&&_}
 use mathlib.Core.Logic.{_≢_}
 use mathlib.Core.List.{List, [], _∷_, map}
 use Prim.Native.Nat.{ℕ, _+_, _-_, _*_, _≤_, _<_}
@@ -8,11 +8,14 @@ use lib.ListN.{length, getD, take, drop}
 use lib.Dec.{eqb}
 use Rattle.laws.specs.Part.{overlaid}
 use Rattle.rule.specs.Task.{passageCount, near, far, cost, isClear, estimate}
-use Rattle.rule.specs.Marks.{waiting, out, isLive}
+use Rattle.laws.specs.Count.{count}
+use Rattle.laws.specs.Least.{least}
+use Rattle.rule.specs.Rule.{storedKey}
+use Rattle.rule.specs.Marks.{waiting, out, isOpen, isLive}
 use Rattle.rule.specs.Refusals.{nothingOut}
 use Rattle.argument.specs.Route.{Graph, Walk, costOf}
 use Rattle.checks.specs.Opening.{Task}
-use Rattle.dealing.specs.Board.{key}
+use Rattle.dealing.specs.Board.{safe, key, choice, foremost}
 use Rattle.dealing.specs.Limited.{fullCount}
 use Rattle.desk.specs.declared.Machine.{Machine}
 use Rattle.desk.specs.declared.Reply.{Reply}
@@ -20,7 +23,7 @@ use Rattle.desk.specs.declared.Reply.the-variants.{Opened, Found, NoPath, Read,
 use Rattle.desk.specs.declared.Counted.{Counted}
 use Rattle.desk.specs.Machine.{handsOf, markOf, labelOf, boardOf}
 use Rattle.desk.specs.Reply.{answer, took, when, replyOf}
-use Rattle.desk.specs.Fits.{fits}
+use Rattle.desk.specs.Fits.{taskFits, rowsFit, fits}
 use Rattle.desk.specs.Opening.{openingOf}
 use Rattle.desk.specs.Take.{takeOf}
 use Rattle.desk.specs.Limited.{limitedOf}
@@ -136,8 +139,24 @@ pub record CountsRight (m : Machine) (estimates : List ℕ) (limit : ℕ) (r : C
   -- every other reply comes where the limit is enough
   pub counting : ((number : ℕ) → r .reply ≢ Refused number) → ((c : ℕ) → r .reply ≢ Cut c)
       → (r .comparisons ≡ fullCount (m .goal) (m .pull) (boardOf m estimates)) × (r .comparisons ≤ limit)
+  -- the full count is at most (open states) × (open or out states − 1)
+  pub most : m .goal < m .n → fullCount (m .goal) (m .pull) (boardOf m estimates) ≤ count (λ s. isOpen (markOf m s)) (m .n) * (count (λ s. isLive (markOf m s)) (m .n) - 1)
 
 -- "On a task that opening accepted and a machine reached from it by calls, it otherwise replies as Take does", and hands back the machine that Take hands back
 pub record LikeTake (t : Task) : Type 0 where
   pub alike : (day : List Call) (worker limit : ℕ) → let m = reached t day in let r = limitedOf m (t .passages) (t .estimates) worker limit in let a = takeOf m (t .passages) (t .estimates) worker in
       ((c : ℕ) → r .reply ≢ Cut c) → (r .machine ≡ a .machine) × (r .reply ≡ a .reply)
+
+-- Order 8, keep the key. Of every machine that fits, whatever is lent: Take, Wait's choice and limited Take ask for the keys of open states alone, and what is stored for these is their key;
+-- so the state that is dealt and the open state with the smallest key are the same by the stored row as by "100 × label + W × h(s, goal)"
+pub record ByStored (m : Machine) (estimates : List ℕ) : Type 0 where
+  pub asked : (s : ℕ) → s < m .n → markOf m s ≡ waiting → getD (m .key) s 0 ≡ key (m .goal) (m .pull) (boardOf m estimates) s
+  pub deals : least (safe (boardOf m estimates)) (λ s. getD (m .key) s 0) (m .n) (m .n) ≡ choice (m .goal) (m .pull) (boardOf m estimates)
+  pub leads : least (λ s. isOpen (markOf m s)) (λ s. getD (m .key) s 0) (m .n) (m .n) ≡ foremost (m .goal) (m .pull) (boardOf m estimates)
+
+-- "No reply changes on machines reached from opening by calls given the same task": each of them stores what the formula makes, "0 for unseen" and past n, and 8 comes for it where it came before keys were stored
+pub record KeysKept (t : Task) : Type 0 where
+  pub stored : (day : List Call) (s : ℕ) → s < t .n → let m = reached t day in getD (m .key) s 0 ≡ storedKey (markOf m s) (labelOf m s) (t .pull) (estimate (t .estimates) (t .n) s (t .goal))
+  pub past : (day : List Call) (s : ℕ) → t .n ≤ s → getD (reached t day .key) s 0 ≡ 0
+  pub before : (day : List Call) → let m = reached t day in
+      fits m (handsOf m) (t .passages) (t .estimates) ≡ (taskFits m (t .passages) (t .estimates) && rowsFit (m .n) (m .k) (m .phase) (m .mark) (m .label) (handsOf m))

@@ -11,7 +11,7 @@ use lib.Dec.{leb, eqb}
 use lib.ListN.{getD, replicate, length-set, length-replicate, getD-replicate}
 use lib.Seq.{getD-set-same, getD-set-other}
 use borrow.Author.Tests.{eq-eqb, ne-eqb, lt-ltb, le-leb, lt-leb}
-use Rattle.laws.specs.Truth.{and-both}
+use Rattle.laws.specs.Truth.{and-right, and-both}
 use Rattle.laws.specs.All.{all-of}
 use Rattle.laws.specs.Count.{count, count-max, count-short}
 use Rattle.rule.specs.Task.{passageCount, far}
@@ -19,32 +19,48 @@ use Rattle.rule.specs.Marks.{out, none, isMark}
 use Rattle.argument.specs.Chain.{chain-cost, fixed}
 use Rattle.argument.specs.Steps.{at-or}
 use Rattle.argument.specs.Good.{good-fresh}
-use Rattle.checks.specs.Opening.{Task, earlyFault}
+use Rattle.checks.specs.Opening.{Task, earlyFault, fault}
 use Rattle.checks.specs.Fits.{marksRight, labelsRight, workerRight, workersRight, holders, heldRight, heldOnce}
 use Rattle.dealing.specs.Board.{safe}
 use Rattle.dealing.specs.declared.Decision.{Decision}
 use Rattle.dealing.specs.declared.Decision.the-variants.{Found, NoPath, Deal, Stuck, Wait}
 use Rattle.desk.specs.declared.Machine.{Machine}
 use Rattle.desk.specs.Machine.{handsOf, heldBy, markOf, labelOf, taskOf, boardOf}
-use Rattle.desk.specs.Fits.{rowsFit, fits}
+use Rattle.desk.specs.Fits.{taskFits, keysFit, isSound, rowsFit, fits}
 use Rattle.desk.specs.Opening.{openedMachine}
 use Rattle.desk.specs.Take.{dealt, act}
 use Rattle.desk.specs.Calls.{Event, call}
+use Rattle.desk.specs.CallLaws.{call-task}
+use Rattle.desk.specs.KeyLaws.{call-stays, opened-keys}
 use Rattle.promises.specs.Demand.{graph}
 use Rattle.promises.specs.Accepted.{Sound}
 use Rattle.promises.specs.View.{between, applied-none, Sure}
-use Rattle.promises.specs.Progress.{safe-is-open, Chosen}
+use Rattle.dealing.specs.Laws.{safe-is-open}
+use Rattle.promises.specs.Progress.{Chosen}
 use Rattle.promises.specs.TakeMoves.{dealt-now, dealt-else, act-sure}
 use Rattle.promises.specs.BringMoves.{lowered, Passing, lowered-now, lowered-else, label-else, free, Keeps, sweep-keeps, finishedBy, finished-now, finished-else, finished-sure}
 use Rattle.promises.specs.Calls.{brought, call-either}
 use Rattle.promises.specs.Holding.{Holding, holding-take, holding-give, holding-same}
 
--- the invariant with what 8 asks of the machine besides; unseen states have label 0
+-- the invariant with what 8 asks of the machine besides, the stored keys apart; unseen states have label 0
+record Orderly (passages estimates : List ℕ) (m : Machine) : Type 0 where
+  sure : Sure passages estimates m
+  phase : m .phase ≤ 2
+  blank : (s : ℕ) → markOf m s ≡ 0 → labelOf m s ≡ 0
+  hold : Holding (m .n) (m .k) none (heldBy (handsOf m)) (markOf m)
+
+-- and with right keys; past n they are 0
 pub record Steady (passages estimates : List ℕ) (m : Machine) : Type 0 where
   pub sure : Sure passages estimates m
   pub phase : m .phase ≤ 2
   pub blank : (s : ℕ) → markOf m s ≡ 0 → labelOf m s ≡ 0
   pub hold : Holding (m .n) (m .k) none (heldBy (handsOf m)) (markOf m)
+  pub keys : keysFit m estimates ≡ true
+  pub past : (s : ℕ) → m .n ≤ s → getD (m .key) s 0 ≡ 0
+
+-- what isn't about keys, kept by each call for itself
+orderly : {passages estimates : List ℕ} {m : Machine} → Steady passages estimates m → Orderly passages estimates m
+orderly z = record { sure = z .sure; phase = z .phase; blank = z .blank; hold = z .hold }
 
 zeros : (n x : ℕ) → getD {A = ℕ} (replicate n 0) x 0 ≡ 0
 zeros zero x = refl
@@ -73,6 +89,7 @@ module _ (t : Task) (a : Sound t) where
       labels = length-replicate {A = ℕ} 256 0;
       vias = length-replicate 256 none;
       workers = length-replicate 32 none;
+      keys = length-set {A = ℕ} (replicate 256 0) (t .start) _ ∙ length-replicate {A = ℕ} 256 0;
     };
     marks = λ s. omega (arith, opened-low s);
     good = good-fresh (graph t) (t .n) (t .excess) (t .start) (t .goal) (passageCount (t .passages)) (between (t .passages) (openedMachine t)) (λ i (l, _). l) (record {
@@ -85,9 +102,9 @@ module _ (t : Task) (a : Sound t) where
     });
   }
 
-  pub opened-steady : Steady (t .passages) (t .estimates) (openedMachine t)
+  pub opened-steady : fault t ≡ 0 → Steady (t .passages) (t .estimates) (openedMachine t)
   unfolding openedMachine
-  opened-steady = record {
+  opened-steady e = record {
     sure = opened-sure;
     phase = omega arith;
     blank = λ s e. zeros 256 s;
@@ -97,10 +114,12 @@ module _ (t : Task) (a : Sound t) where
       own = λ w l. inl (getD-replicate 32 w none 0 (omega (arith, a .right .workers)));
       once = λ s e. absurd (omega (arith, opened-low s));
     };
+    keys = opened-keys t e;
+    past = λ s l. getD-set-other {A = ℕ} (replicate 256 0) (t .start) s _ 0 (λ q. omega (arith, a .right .start-in)) ∙ zeros 256 s;
   }
 
 -- Take keeps it
-module _ {passages estimates : List ℕ} {m : Machine} (z : Steady passages estimates m) (worker : ℕ) (l : worker < m .k) (e : heldBy (handsOf m) worker ≡ none) where
+module _ {passages estimates : List ℕ} {m : Machine} (z : Orderly passages estimates m) (worker : ℕ) (l : worker < m .k) (e : heldBy (handsOf m) worker ≡ none) where
   deal-held : (s : ℕ) → safe (boardOf m estimates) s ≡ true → Holding (m .n) (m .k) none (heldBy (handsOf (dealt m (handsOf m) worker s))) (markOf (dealt m (handsOf m) worker s))
   deal-held s k =
       let is : markOf m s ≡ 1 = safe-is-open (boardOf m estimates) s k in
@@ -109,17 +128,17 @@ module _ {passages estimates : List ℕ} {m : Machine} (z : Steady passages esti
       (λ x d. getD-set-other (m .held) worker x s 0 d) e (z .sure .good .frontier .inside s (omega arith)) (omega arith) mine
       (dealt-now (z .sure) worker s k) (dealt-else (z .sure) worker s k)
 
-  act-steady : (d : Decision) → Chosen (m .goal) (m .pull) (boardOf m estimates) d → Steady passages estimates (act m (handsOf m) worker d .machine)
-  act-steady (Found cost) k = record { sure = act-sure (z .sure) worker (Found cost) k; phase = omega arith; blank = z .blank; hold = z .hold }
-  act-steady NoPath k = record { sure = act-sure (z .sure) worker NoPath k; phase = omega arith; blank = z .blank; hold = z .hold }
-  act-steady (Deal s) k = record {
+  act-orderly : (d : Decision) → Chosen (m .goal) (m .pull) (boardOf m estimates) d → Orderly passages estimates (act m (handsOf m) worker d .machine)
+  act-orderly (Found cost) k = record { sure = act-sure (z .sure) worker (Found cost) k; phase = omega arith; blank = z .blank; hold = z .hold }
+  act-orderly NoPath k = record { sure = act-sure (z .sure) worker NoPath k; phase = omega arith; blank = z .blank; hold = z .hold }
+  act-orderly (Deal s) k = record {
     sure = act-sure (z .sure) worker (Deal s) k;
     phase = z .phase;
     blank = at-or s (λ q. absurd (omega (arith, dealt-now (z .sure) worker s (k .0)))) (λ x d q. z .blank x (sym (dealt-else (z .sure) worker s (k .0) x d) ∙ q));
     hold = deal-held s (k .0);
   }
-  act-steady Stuck k = z
-  act-steady (Wait s) k = z
+  act-orderly Stuck k = z
+  act-orderly (Wait s) k = z
 
 -- what a pass over the state p that the worker holds keeps besides the invariant
 record Carrying (worker p : ℕ) (m : Machine) : Type 0 where
@@ -131,20 +150,20 @@ record Carrying (worker p : ℕ) (m : Machine) : Type 0 where
 
 carrying : (passages estimates : List ℕ) (worker p l : ℕ) → Keeps passages estimates p l (Carrying worker p)
 carrying passages estimates worker p l i m z j from e c =
-    let now : markOf (lowered passages l i m) (far passages i) ≡ 1 = lowered-now z j from e in
+    let now : markOf (lowered passages estimates l i m) (far passages i) ≡ 1 = lowered-now z j from e in
     record {
       inside = c .inside;
       mine = c .mine;
       phase = c .phase;
       blank = at-or (far passages i) (λ k. absurd (omega arith)) (λ x d k. label-else z j from e x d ∙ c .blank x (sym (lowered-else z j from e x d) ∙ k));
-      hold = holding-same (m .n) (m .k) none (heldBy (handsOf m)) (markOf m) (markOf (lowered passages l i m)) (c .hold)
+      hold = holding-same (m .n) (m .k) none (heldBy (handsOf m)) (markOf m) (markOf (lowered passages estimates l i m)) (c .hold)
           (at-or (far passages i) (λ k. absurd (omega arith), λ k. absurd (omega (arith, free z j from e)))
           (λ x d. (λ k. sym (lowered-else z j from e x d) ∙ k, λ k. lowered-else z j from e x d ∙ k)));
     }
 
 -- giving it back keeps it all
 given-back : {passages estimates : List ℕ} {p l : ℕ} {m : Machine} (worker : ℕ) → Passing passages estimates p l (passageCount passages) m → Carrying worker p m
-    → Steady passages estimates (finishedBy worker p m)
+    → Orderly passages estimates (finishedBy worker p m)
 given-back {p = p} {m = m} worker z c =
     let now : markOf (finishedBy worker p m) p ≡ 3 = finished-now z worker in
     let empty : heldBy (handsOf (finishedBy worker p m)) worker ≡ none =
@@ -157,19 +176,38 @@ given-back {p = p} {m = m} worker z c =
           (λ x d. getD-set-other (m .held) worker x none 0 d) (c .mine) (z .out) empty (omega arith) (finished-else z worker);
     }
 
-module _ {passages estimates : List ℕ} {m : Machine} (z : Steady passages estimates m) where
-  bring-steady : (worker : ℕ) → worker < m .k → markOf m (heldBy (handsOf m) worker) ≡ 2
-      → Steady passages estimates (brought m passages worker (heldBy (handsOf m) worker) .machine)
-  bring-steady worker l o =
+module _ {passages estimates : List ℕ} {m : Machine} (z : Orderly passages estimates m) where
+  bring-orderly : (worker : ℕ) → worker < m .k → markOf m (heldBy (handsOf m) worker) ≡ 2
+      → Orderly passages estimates (brought m passages estimates worker (heldBy (handsOf m) worker) .machine)
+  bring-orderly worker l o =
       let p : ℕ = heldBy (handsOf m) worker in
       let (passed, carried) = sweep-keeps (z .sure) p o (Carrying worker p) (carrying passages estimates worker p (labelOf m p))
       (record { inside = l; mine = refl; phase = z .phase; blank = z .blank; hold = z .hold }) in
       given-back worker passed carried
 
+  call-orderly : (e : Event) → Orderly passages estimates (call passages estimates m e .machine)
+  call-orderly = call-either passages estimates m (λ a. Orderly passages estimates (a .machine)) (λ number l. z)
+      (λ worker a e d k. act-orderly z worker (a .worker-in) e d k)
+      (λ worker a o. bring-orderly worker (a .worker-in) o)
+
+module _ {passages estimates : List ℕ} {m : Machine} (z : Steady passages estimates m) where
+  is-sound : isSound m passages estimates ≡ true
+  is-sound = and-both (eq-eqb (earlyFault (taskOf m passages estimates)) 0 (z .sure .task .early)) (z .keys)
+
+  -- no call makes the keys wrong, or reaches past n
   pub call-steady : (e : Event) → Steady passages estimates (call passages estimates m e .machine)
-  call-steady = call-either passages estimates m (λ a. Steady passages estimates (a .machine)) (λ number l. z)
-      (λ worker a e d k. act-steady z worker (a .worker-in) e d k)
-      (λ worker a o. bring-steady worker (a .worker-in) o)
+  call-steady e =
+      let o = call-orderly (orderly z) e in
+      let w = call-stays passages estimates m e (z .sure .sized) in
+      let same : call passages estimates m e .machine .n ≡ m .n = ap (λ (t : Task). t .n) (call-task passages estimates m e) in
+      record {
+        sure = o .sure;
+        phase = o .phase;
+        blank = o .blank;
+        hold = o .hold;
+        keys = and-right (taskFits (call passages estimates m e .machine) passages estimates) _ (w .sound ∙ is-sound);
+        past = λ s l. w .past s (omega arith) ∙ z .past s (omega arith);
+      }
 
   -- how many states were dealt before
   abbrev dealtCount : ℕ
@@ -193,7 +231,7 @@ module _ {passages estimates : List ℕ} {m : Machine} (z : Steady passages esti
   pub steady-fits : fits m (handsOf m) passages estimates ≡ true
   unfolding fits rowsFit marksRight labelsRight workersRight holders heldOnce
   steady-fits =
-      and-both (eq-eqb (earlyFault (taskOf m passages estimates)) 0 (z .sure .task .early))
+      and-both is-sound
       (and-both (le-leb (m .phase) 2 (z .phase))
       (and-both (all-of (λ s. isMark (getD (m .mark) s 0)) (m .n) (λ s l. le-leb (markOf m s) 3 (z .sure .marks s)))
       (and-both (all-of (λ s. leb (getD (m .label) s 0) 255000000) (m .n) (λ s l. le-leb (labelOf m s) 255000000 (label-small s l)))

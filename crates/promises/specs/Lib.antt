@@ -18,3 +18,4 @@ pub mod Runs
 pub mod Blocked
 pub mod Theorem
 pub mod Limited
+pub mod Keys

@@ -28,16 +28,16 @@ use Rattle.promises.specs.Calls.{call-either, morning-either}
 use Rattle.promises.specs.Waiting.{wait-right}
 
 -- going over the passages sets at most one label for each
-fold-many : (passages : List ℕ) (state label : ℕ) (w : Swept) (n : ℕ) → fold (applyPassage passages state label) w n .many ≤ w .many + n
+fold-many : (passages estimates : List ℕ) (state label : ℕ) (w : Swept) (n : ℕ) → fold (applyPassage passages estimates state label) w n .many ≤ w .many + n
 unfolding fold
-fold-many passages state label w zero = omega arith
-fold-many passages state label w (suc n) =
-    let v : Swept = fold (applyPassage passages state label) w n in
-    omega (arith, apply-either (λ x. x .many ≤ v .many + 1) passages state label n v (omega arith) (omega arith), fold-many passages state label w n)
+fold-many passages estimates state label w zero = omega arith
+fold-many passages estimates state label w (suc n) =
+    let v : Swept = fold (applyPassage passages estimates state label) w n in
+    omega (arith, apply-either (λ x. x .many ≤ v .many + 1) passages estimates state label n v (omega arith) (omega arith), fold-many passages estimates state label w n)
 
-sweep-many : (m : Machine) (passages : List ℕ) (s : ℕ) → sweepOf m passages s .many ≤ passageCount passages
+sweep-many : (m : Machine) (passages estimates : List ℕ) (s : ℕ) → sweepOf m passages estimates s .many ≤ passageCount passages
 unfolding sweepOf
-sweep-many m passages s = omega (arith, fold-many passages s (labelOf m s) (swept m 0) (passageCount passages))
+sweep-many m passages estimates s = omega (arith, fold-many passages estimates s (labelOf m s) (swept m 0) (passageCount passages))
 
 -- what a call replies has at most 32 bits
 module _ (passages estimates : List ℕ) (m : Machine) where
@@ -57,7 +57,7 @@ module _ (passages estimates : List ℕ) (m : Machine) where
       call-either passages estimates m (λ a. valueOf (a .reply) < 4294967296)
       (λ number l. omega arith)
       (λ worker a e d k. act-small worker a d k)
-      (λ worker a o. omega (arith, sweep-many m passages (heldBy (handsOf m) worker), fitting m (handsOf m) passages estimates (a .fit) .task .few))
+      (λ worker a o. omega (arith, sweep-many m passages estimates (heldBy (handsOf m) worker), fitting m (handsOf m) passages estimates (a .fit) .task .few))
 
 -- so the replies come back from their numbers
 pub replies-back : (passages estimates : List ℕ) (m : Machine) (es : List Event) → map replyOf (map codeOf (replies passages estimates m es)) ≡ replies passages estimates m es

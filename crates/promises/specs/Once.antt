@@ -19,7 +19,8 @@ use Rattle.desk.specs.Bring.{sweepOf}
 use Rattle.desk.specs.Calls.{Event, call}
 use Rattle.promises.specs.Demand.{deals}
 use Rattle.promises.specs.View.{Sure}
-use Rattle.promises.specs.Progress.{safe-is-open, Chosen}
+use Rattle.dealing.specs.Laws.{safe-is-open}
+use Rattle.promises.specs.Progress.{Chosen}
 use Rattle.promises.specs.TakeMoves.{dealt-now, dealt-else}
 use Rattle.promises.specs.BringMoves.{Passing, lowered-else, free, Keeps, sweep-keeps, finishedBy, finished-now, finished-else}
 use Rattle.promises.specs.Calls.{brought, call-either}
@@ -74,9 +75,9 @@ module _ {passages estimates : List ℕ} {m : Machine} (z : Sure passages estima
       at-or p {P = λ x. 2 ≤ markOf m′ x → 2 ≤ markOf (finishedBy worker p m′) x} (λ _. omega (arith, finished-now y worker))
       (λ x d w. omega (arith, finished-else y worker x d)) s (f k)
 
-  bring-once : (worker p : ℕ) → markOf m p ≡ 2 → Once m s (brought m passages worker p)
+  bring-once : (worker p : ℕ) → markOf m p ≡ 2 → Once m s (brought m passages estimates worker p)
   bring-once worker p o =
-      let m′ : Machine = sweepOf m passages p .machine in
+      let m′ : Machine = sweepOf m passages estimates p .machine in
       let (passed, stays) = sweep-keeps z p o Stays (passage-stays p (labelOf m p)) (λ l. l) in
       omega (arith, gone-stays m (finishedBy worker p m′) s (finish-stays worker p (labelOf m p) m′ passed stays))
 

@@ -34,11 +34,7 @@ module _ (b : Board) (s : ℕ) where
   pub independent-of : (u : ℕ) → u ≢ s → isLive (markAt b u) ≡ true → dependsOn b s u ≡ false → 100 * labelAt b s ≤ 100 * labelAt b u + b .excess * h b u s
   independent-of u d a e = leb-true _ _ (not-false _ (sym (depends-live u d a) ∙ e))
 
-  -- safe is open and free
-  pub safe-is-open : safe b s ≡ true → markAt b s ≡ waiting
-  unfolding safe
-  safe-is-open e = eqb-true (markAt b s) waiting (and-left _ _ e)
-
+  -- what is safe is free
   pub safe-is-free : safe b s ≡ true → Free b s
   unfolding safe firstDependence
   safe-is-free e u l d a =

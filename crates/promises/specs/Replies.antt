@@ -22,7 +22,8 @@ use Rattle.desk.specs.Calls.{Event, call}
 use Rattle.promises.specs.Demand.{graph, IsRoute, routeCost, PathRight}
 use Rattle.promises.specs.Accepted.{Sound}
 use Rattle.promises.specs.View.{between, applied}
-use Rattle.promises.specs.Progress.{safe-is-open, Chosen}
+use Rattle.dealing.specs.Laws.{safe-is-open}
+use Rattle.promises.specs.Progress.{Chosen}
 use Rattle.promises.specs.TakeMoves.{live-is, safe-allowed}
 use Rattle.promises.specs.Calls.{call-either}
 use Rattle.promises.specs.Fits.{Steady, call-steady, steady-fits}

@@ -22,7 +22,8 @@ use Rattle.desk.specs.declared.Machine.{Machine}
 use Rattle.desk.specs.Machine.{markOf, withPhase, labelOf, boardOf, handsOf}
 use Rattle.desk.specs.Take.{dealt, act}
 use Rattle.promises.specs.View.{between, applied-none, applied-same, SureAt, Sure, StepAt, good-on}
-use Rattle.promises.specs.Progress.{safe-is-open, safe-is-free, Chosen}
+use Rattle.dealing.specs.Laws.{safe-is-open}
+use Rattle.promises.specs.Progress.{safe-is-free, Chosen}
 
 -- of the marks that there are, all but unseen and finished are live
 pub live-is : (k : ℕ) → 1 ≤ k → k ≢ 3 → k ≤ 3 → isLive k ≡ true
@@ -79,7 +80,7 @@ module _ {passages estimates : List ℕ} {m : Machine} (z : Sure passages estima
     dealt-sure : s ≢ m .goal → Sure passages estimates (dealt m (handsOf m) worker s)
     dealt-sure u = record {
       task = z .task;
-      sized = record { marks = length-set (m .mark) s out ∙ z .sized .marks; labels = z .sized .labels; vias = z .sized .vias; workers = length-set (m .held) worker s ∙ z .sized .workers };
+      sized = record { marks = length-set (m .mark) s out ∙ z .sized .marks; labels = z .sized .labels; vias = z .sized .vias; workers = length-set (m .held) worker s ∙ z .sized .workers; keys = z .sized .keys };
       marks = at-or s (omega (arith, dealt-now)) (λ x d. omega (arith, dealt-else x d, z .marks x));
       good = good-on passages estimates m (z .task) (z .good) (deal-step u);
     }
@@ -88,7 +89,7 @@ module _ {passages estimates : List ℕ} {m : Machine} (z : Sure passages estima
   phase-sure : (p : ℕ) → Sure passages estimates (withPhase m p)
   phase-sure p = record {
     task = z .task;
-    sized = record { marks = z .sized .marks; labels = z .sized .labels; vias = z .sized .vias; workers = z .sized .workers };
+    sized = record { marks = z .sized .marks; labels = z .sized .labels; vias = z .sized .vias; workers = z .sized .workers; keys = z .sized .keys };
     marks = z .marks;
     good = z .good;
   }

@@ -23,7 +23,7 @@ module _ (t : Task) (a : Accepted t) where
   opened : Standing t (openingOf t .machine)
   unfolding openedMachine
   opened = record {
-    steady = subst⁻¹ (Steady (t .passages) (t .estimates)) (accepted-machine t a) (opened-steady t (sound t (accepted-fault t a)));
+    steady = subst⁻¹ (Steady (t .passages) (t .estimates)) (accepted-machine t a) (opened-steady t (sound t (accepted-fault t a)) (accepted-fault t a));
     task = ap (λ (m : Machine). taskOf m (t .passages) (t .estimates)) (accepted-machine t a);
   }
 

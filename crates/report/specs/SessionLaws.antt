@@ -48,9 +48,9 @@ act-spends m held worker (Deal s) e = omega arith
 act-spends m held worker Stuck e = omega arith
 act-spends m held worker (WaitOn s) e = omega arith
 
-bring-spends : (m : Machine) (held passages : List ℕ) (worker : ℕ) → Spends m (bringStep m held passages worker)
+bring-spends : (m : Machine) (held passages estimates : List ℕ) (worker : ℕ) → Spends m (bringStep m held passages estimates worker)
 unfolding bringStep
-bring-spends m held passages worker = rw (sweep-leaves (λ (x : Machine). x .phase) (λ _ _ _ _. refl) m passages (heldBy held worker)) (omega arith)
+bring-spends m held passages estimates worker = rw (sweep-leaves (λ (x : Machine). x .phase) (λ _ _ _ _ _. refl) m passages estimates (heldBy held worker)) (omega arith)
 
 pub call-spends : (passages estimates : List ℕ) (m : Machine) (e : Event) → spare (call passages estimates m e .machine) + reserve (call passages estimates m e .reply) ≤ spare m
 unfolding takeOf takeStep bringOf
@@ -58,7 +58,7 @@ call-spends passages estimates m (takes worker) =
     admitted-either m (handsOf m) passages estimates (Spends m) worker _ _ (λ _ _. omega arith)
     (λ a _. act-spends m (handsOf m) worker (decision (m .goal) (m .pull) (boardOf m estimates)) (a .searching))
 call-spends passages estimates m (brings worker) =
-    admitted-either m (handsOf m) passages estimates (Spends m) worker _ _ (λ _ _. omega arith) (λ _ _. bring-spends m (handsOf m) passages worker)
+    admitted-either m (handsOf m) passages estimates (Spends m) worker _ _ (λ _ _. omega arith) (λ _ _. bring-spends m (handsOf m) passages estimates worker)
 
 -- a path that is read into 256 places has at most so many states
 pub path-fits : (m : Machine) (passages estimates : List ℕ) → PathFits (pathOf m passages estimates (replicate 256 0) 0 .given .reply)

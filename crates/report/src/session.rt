@@ -5,7 +5,7 @@ ghost use mathlib.Core.List.{[]};
 ghost use Prim.Native.Nat.{_+_, _*_, _≤_, _<_};
 ghost use lib.ListN.{length};
 ghost use Rattle.laws.specs.Put.{Put};
-ghost use Rattle.desk.specs.Fits.{taskFits};
+ghost use Rattle.desk.specs.Fits.{isSound};
 ghost use Rattle.desk.specs.Morning.{eventsOf};
 ghost use Rattle.desk.specs.Reply.{when, found};
 ghost use Rattle.report.specs.Text.{session, taskText, reportLength, reportBuffer};
@@ -48,7 +48,7 @@ pub fn put_after(
 }
 
 // One event: its call is made and said. Opening accepted the task, so that conditions 1 to 4 hold of every machine that its
-// calls hand back, and none of these looks at them again.
+// calls hand back and its keys are right, and none of these looks at them again.
 pub fn tell(
     m: Machine,
     passages: &[u32],
@@ -57,7 +57,7 @@ pub fn tell(
     out: &mut [u8],
     at: usize,
 ) -> Told
-    requires { ⌜ (at + 50 + spare m ≤ length (now out)) × (taskFits m (now passages) (now estimates) ≡ true) ⌝ }
+    requires { ⌜ (at + 50 + spare m ≤ length (now out)) × (isSound m (now passages) (now estimates) ≡ true) ⌝ }
     ensures { λ r. ⌜ Said m (now (passages .entry)) (now (estimates .entry)) event at (now (out .entry)) (now (out .exit)) r ⌝ }
 {
     let answer = desk::called(m, true, passages, estimates, event);
@@ -79,7 +79,7 @@ pub fn play(
     events: &[u32],
     out: &mut [u8],
 ) -> usize
-    requires { ⌜ (50 * length (now events) + 8192 ≤ length (now out)) × (taskFits machine (now passages) (now estimates) ≡ true) ⌝ }
+    requires { ⌜ (50 * length (now events) + 8192 ≤ length (now out)) × (isSound machine (now passages) (now estimates) ≡ true) ⌝ }
     ensures { λ r. ⌜ Put 0 (session (now (passages .entry)) (now (estimates .entry)) machine (eventsOf (now (events .entry)))) (now (out .entry)) (now (out .exit)) r ⌝ }
 {
     let mut m = machine;

@@ -9,7 +9,7 @@ use Rattle.laws.specs.Gather.{gathered, picked}
 use Rattle.rule.specs.Task.{isClear}
 use Rattle.rule.specs.Rule.{independent, holdsBack, lowers}
 use Rattle.checks.specs.Opening.{sizesRight, endsRight, weightsRight, passagesRight, estimatesRight, passagesBound, detoursBy, detoursFrom, detoursBound, earlyFault, fault}
-use Rattle.checks.specs.Fits.{marksRight, labelsRight, workersRight, holders, heldOnce}
+use Rattle.checks.specs.Fits.{marksRight, labelsRight, keysRight, workersRight, holders, heldOnce}
 use Rattle.dealing.specs.Board.{dependsOn, firstDependence, safe, key, choice, foremost, anyOpen, anyOut, firstMarked}
 use Rattle.dealing.specs.Decision.{waitedFor, decision}
 use Rattle.dealing.specs.Limited.{compared, stopsAt, comparisons, passes, follows, next, others, candidates, tried, fullCount, stoppedBy, limitedDecision, limited}
@@ -38,5 +38,5 @@ use Rattle.report.specs.Line.{numbers, spoken}
 use Rattle.report.specs.Text.{conversation, session, taskText, printed}
 
 unfoldable pub definitions : Type 0
-unfolding fold first least count all made gathered picked isClear independent holdsBack lowers sizesRight endsRight weightsRight passagesRight estimatesRight passagesBound detoursBy detoursFrom detoursBound earlyFault fault marksRight labelsRight workersRight holders heldOnce dependsOn firstDependence safe key choice foremost anyOpen anyOut firstMarked waitedFor decision compared stopsAt comparisons passes follows next others candidates tried fullCount stoppedBy limitedDecision limited isHome isLinked goBack rowsFit fits codeOf openedMachine blankMachine openingOf admitted takeStep takeOf limitedAnswer limitedOf applyPassage sweepOf bringStep bringOf pathOf answers replies after eventsOf eventsRight morningFault morningOf numberAt bytesOf beyond headAt passageAt rowAt callAt recordAt advance scanned filePassages fileEstimates fileCalls roomyFor readOf sizesCarried headCarried endsCarried callsCarried carried headRecord passageRecord rowRecord callRecord fileOf writeOf byte isWord digit digits number isSize widthAt rowsAt headRight mapOf isOpen isClosed rowsRight openAt cells stateOf stateCount countRight free rowTo columnTo linked isPassage leadsTo passage passagesOf passagesMany gap octile between estimatesOf mapFault roomy readMap decimalIn numbers spoken conversation session taskText printed
+unfolding fold first least count all made gathered picked isClear independent holdsBack lowers sizesRight endsRight weightsRight passagesRight estimatesRight passagesBound detoursBy detoursFrom detoursBound earlyFault fault marksRight labelsRight keysRight workersRight holders heldOnce dependsOn firstDependence safe key choice foremost anyOpen anyOut firstMarked waitedFor decision compared stopsAt comparisons passes follows next others candidates tried fullCount stoppedBy limitedDecision limited isHome isLinked goBack rowsFit fits codeOf openedMachine blankMachine openingOf admitted takeStep takeOf limitedAnswer limitedOf applyPassage sweepOf bringStep bringOf pathOf answers replies after eventsOf eventsRight morningFault morningOf numberAt bytesOf beyond headAt passageAt rowAt callAt recordAt advance scanned filePassages fileEstimates fileCalls roomyFor readOf sizesCarried headCarried endsCarried callsCarried carried headRecord passageRecord rowRecord callRecord fileOf writeOf byte isWord digit digits number isSize widthAt rowsAt headRight mapOf isOpen isClosed rowsRight openAt cells stateOf stateCount countRight free rowTo columnTo linked isPassage leadsTo passage passagesOf passagesMany gap octile between estimatesOf mapFault roomy readMap decimalIn numbers spoken conversation session taskText printed
 definitions = Unit

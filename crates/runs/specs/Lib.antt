@@ -5,6 +5,7 @@ pub mod Runs
 pub mod Made
 pub mod Steps
 pub mod Limits
+pub mod Keys
 pub mod Refusals
 pub mod Files
 pub mod Sentences

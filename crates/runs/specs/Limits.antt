@@ -1,7 +1,7 @@
 -- Order 7, "A Take that knows when to stop": which states a limited Take tries, in which order, what it compares them with, how many comparisons it counts, and when it is Cut.
 -- Beside a row stands its count on paper: the candidates in their order, a key in brackets behind a state, and the states that each candidate is compared with.
 use mathlib.Core.Path.{_≡_, refl}
-use mathlib.Core.List.{List, [], _∷_, _++_, map}
+use mathlib.Core.List.{List, [], _∷_, map}
 use Prim.Native.Nat.{ℕ, _+_, _*_}
 use Rattle.rule.specs.Marks.{none}
 use Rattle.checks.specs.Opening.{Task, task}
@@ -27,9 +27,9 @@ course limit m [] = []
 course limit m (take worker ∷ rest) = let c = limitedBy m worker limit in (c .reply, c .comparisons) ∷ course limit (c .machine) rest
 course limit m (bring worker ∷ rest) = let a = called m (bring worker) in (a .reply, 0) ∷ course limit (a .machine) rest
 
--- on task A these calls leave 0 and 1 finished, 2 open with label 3, and the goal open with label 11
-abbrev early : List Event
-early = take 0 ∷ bring 0 ∷ take 0 ∷ bring 0 ∷ []
+-- task A after T0 B0 T0 B0: 0 and 1 are finished, 2 is open with label 3, by passage 2, and the goal with label 11, by passage 4. Here 2 has this mark, and the workers hold these states.
+abbrev early : ℕ → List ℕ → Machine
+early mark held = made taskA 0 (3 ∷ 3 ∷ mark ∷ 0 ∷ 1 ∷ []) (0 ∷ 2 ∷ 3 ∷ 0 ∷ 11 ∷ []) (none ∷ 0 ∷ 2 ∷ none ∷ 4 ∷ []) held
 
 -- a task of five states without passages, with four workers, goal 4 and E 100; and a machine of it
 abbrev five : ℕ → List ℕ → Task
@@ -75,7 +75,7 @@ pub record Limits : Type 0 where
   pub nopath-machine : limitedOf (made (taskC 5 4 zeros) 0 (3 ∷ []) [] [] []) [] zeros 0 0 ≡ counted (made (taskC 5 4 zeros) 2 (3 ∷ []) [] [] []) NoPath 0
   pub wait-machine : limitedBy midway 1 1 ≡ counted midway (Wait 1) 1
   -- "it replies Cut, reports the limit and leaves the machine": the goal (1100) with 2 (300), then 2 with none, which is dealt where the limit is 1
-  pub cut-machine : limitedBy (end taskA early) 1 0 ∷ limitedBy (end taskA early) 1 1 ∷ [] ≡ counted (end taskA early) (Cut 0) 0 ∷ counted (end taskA (early ++ (take 1 ∷ []))) (Took 2) 1 ∷ []
+  pub cut-machine : map (limitedBy (early 1 []) 1) (0 ∷ 1 ∷ []) ≡ counted (early 1 []) (Cut 0) 0 ∷ counted (early 2 (none ∷ 2 ∷ [])) (Took 2) 1 ∷ []
   -- "With a limit smaller than that full count": 3 is out with label 0, and the others depend on it alone. The goal (1800) with 0, 1, 2 and 3; 0 (1500) with 3; 1 (1600) with 0 and 3; 2 (1700) with 0, 1 and 3: 4 + 1 + 2 + 3.
   pub cut-limits :
       map (λ limit. told limit 0 nines (1 ∷ 1 ∷ 1 ∷ 2 ∷ 1 ∷ []) (15 ∷ 16 ∷ 17 ∷ 0 ∷ 18 ∷ []) (none ∷ 3 ∷ [])) (0 ∷ 1 ∷ 9 ∷ 10 ∷ 11 ∷ []) ≡

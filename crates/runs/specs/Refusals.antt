@@ -3,14 +3,14 @@ use mathlib.Core.Path.{_≡_, refl}
 use mathlib.Core.Bool.{true, false}
 use mathlib.Core.List.{List, [], _∷_, map}
 use Prim.Native.Nat.{ℕ, _+_, _*_}
-use lib.ListN.{replicate, set, take as front}
+use lib.ListN.{replicate, take as front}
 use Rattle.rule.specs.Marks.{none}
 use Rattle.checks.specs.Opening.{Task, task, sizesRight}
 use Rattle.dealing.specs.declared.Decision.the-variants.{Stuck}
 use Rattle.desk.specs.declared.Machine.{Machine}
 use Rattle.desk.specs.declared.Reply.{Reply}
 use Rattle.desk.specs.declared.Reply.the-variants.{Opened, Wait, Read, Refused, Done, Cut}
-use Rattle.desk.specs.Machine.{withPhase, withMark, withLabel, withVia, withHands, handsOf}
+use Rattle.desk.specs.Machine.{withPhase, withMark, withLabel, withVia, withKey, handsOf}
 use Rattle.desk.specs.Reply.{answer, refused}
 use Rattle.desk.specs.Take.{act}
 use Rattle.desk.specs.Path.{pathOf}
@@ -18,7 +18,7 @@ use Rattle.desk.specs.Calls.{take, bring, call}
 use Rattle.desk.specs.Morning.{Morning, morningOf}
 use Rattle.runs.specs.Definitions.{definitions}
 use Rattle.runs.specs.Tasks.{passages, zeros, h, taskWith, taskA, opened, refusal}
-use Rattle.runs.specs.Made.{made, midwayIn, midway, arrived, unfit, called, limitedBy, counted, lastCosts, single, pair, triple}
+use Rattle.runs.specs.Made.{made, midwayIn, midway, arrived, unfit, withHeld, over, called, limitedBy, counted, lastCosts, single, pair, triple}
 
 -- what worker 1's Take is told: Wait 1 where the machine is `midway`. And where the task's numbers and the lent slices are others.
 abbrev told : Machine → Reply
@@ -26,14 +26,6 @@ told m = called m (take 1) .reply
 
 abbrev toldIn : Task → Reply
 toldIn t = call (t .passages) (t .estimates) (midwayIn t) (take 1) .reply
-
--- the machine with a state in a worker's hands
-abbrev withHeld : Machine → ℕ → ℕ → Machine
-withHeld m worker s = withHands m (set (handsOf m) worker s)
-
--- `midway`, and `unfit`, with phase 1 and with state 1 in the hands of worker 2 of 2
-abbrev over : Machine → Machine
-over m = withHeld (withPhase m 1) 2 1
 
 -- path reading into six places with a 9 in each, from a place on: the reply, and the places
 abbrev nines : List ℕ
@@ -128,8 +120,8 @@ pub record Refusals : Type 0 where
   pub path-order :
       map (readFrom 7) (withMark (withPhase astray 0) 4 4 ∷ withPhase astray 0 ∷ astray ∷ arrived ∷ []) ≡
       (Refused 8, nines) ∷ (Refused 13, nines) ∷ (Refused 14, nines) ∷ (Refused 15, nines) ∷ []
-  -- 14 "a passage number isn't one, doesn't end at the state, label isn't near label + cost": 6 of 6; 0→2, of cost 5, for state 3, whose label is 5; 7 for 5 + 1
-  pub path-links : map (readFrom 0) (astray ∷ withVia arrived 3 1 ∷ withLabel arrived 4 7 ∷ []) ≡ (Refused 14, nines) ∷ (Refused 14, nines) ∷ (Refused 14, nines) ∷ []
+  -- 14 "a passage number isn't one, doesn't end at the state, label isn't near label + cost": 6 of 6; 0→2, of cost 5, for state 3, whose label is 5; 7, with its key, for 5 + 1
+  pub path-links : map (readFrom 0) (astray ∷ withVia arrived 3 1 ∷ withKey (withLabel arrived 4 7) 4 700 ∷ []) ≡ (Refused 14, nines) ∷ (Refused 14, nines) ∷ (Refused 14, nines) ∷ []
   -- "or the start with label 0 isn't met within n states": the goal came by a passage 1→1 of cost 0; the start has label 1
   pub path-round : readIn (pair 1 1 0 0) (made (pair 1 1 0 0) 1 (3 ∷ 1 ∷ []) [] (none ∷ 0 ∷ []) []) ≡ Refused 14
   pub path-start : readIn (single 1 0 100) (made (single 1 0 100) 1 (1 ∷ []) (1 ∷ []) [] []) ≡ Refused 14

@@ -19,7 +19,7 @@ use Rattle.runs.specs.Made.{made, midway, arrived, called}
 
 -- all that a machine holds: the numbers of its task with the phase, and its rows
 abbrev parts : Machine → List (List ℕ)
-parts m = (m .n ∷ m .k ∷ m .start ∷ m .goal ∷ m .pull ∷ m .excess ∷ m .phase ∷ []) ∷ m .mark ∷ m .label ∷ m .via ∷ m .held ∷ []
+parts m = (m .n ∷ m .k ∷ m .start ∷ m .goal ∷ m .pull ∷ m .excess ∷ m .phase ∷ []) ∷ m .mark ∷ m .label ∷ m .via ∷ m .held ∷ m .key ∷ []
 
 -- five states, three workers, goal 4, E 100: what worker 0's Take is told where W is this, the states have these marks and labels, and the workers hold these states
 abbrev told : ℕ → List ℕ → List ℕ → List ℕ → List ℕ → Reply
@@ -46,9 +46,9 @@ three = take 0 ∷ bring 0 ∷ take 0 ∷ []
 pub record Steps : Type 0 where
   -- "Opening sets the start open with label 0. All other marks and labels are 0, including places past n; “no passage” and “holds nothing” are 65,535."
   pub opened-machine : parts (opened (task 5 2 1 4 50 100 passages zeros)) ≡
-      (5 ∷ 2 ∷ 1 ∷ 4 ∷ 50 ∷ 100 ∷ 0 ∷ []) ∷ (0 ∷ 1 ∷ replicate 254 0) ∷ replicate 256 0 ∷ replicate 256 65535 ∷ replicate 32 65535 ∷ []
+      (5 ∷ 2 ∷ 1 ∷ 4 ∷ 50 ∷ 100 ∷ 0 ∷ []) ∷ (0 ∷ 1 ∷ replicate 254 0) ∷ replicate 256 0 ∷ replicate 256 65535 ∷ replicate 32 65535 ∷ replicate 256 0 ∷ []
   -- "opening hands back no machine to use: all numbers 0"
-  pub refused-machine : parts (opened (taskWith zeros 101 100)) ≡ replicate 7 0 ∷ replicate 256 0 ∷ replicate 256 0 ∷ replicate 256 0 ∷ replicate 32 0 ∷ []
+  pub refused-machine : parts (opened (taskWith zeros 101 100)) ≡ replicate 7 0 ∷ replicate 256 0 ∷ replicate 256 0 ∷ replicate 256 0 ∷ replicate 32 0 ∷ replicate 256 0 ∷ []
   -- Take: "its mark becomes out, the worker holds it". Bring: "it becomes open with that sum and that passage. Then the held state is finished, the worker holds nothing."
   pub dealt-machine : end taskA three ≡ midway
   -- "Found with its label, phase 1"; "NoPath, phase 2"; "otherwise Wait, machine unchanged"

@@ -6,17 +6,29 @@ use crate::desk::{Action, Reply, Task, FOUND};
 use crate::desks::{Checked, Desks};
 use crate::maker::{self, Rng};
 use crate::rows::{self, Independent, RowDesk, PHASE, PRINT_ROOM, ROW};
+use crate::tally::Tally;
 
 mod files;
+mod keys;
 mod limited;
 mod maps;
 
-pub use files::unmet;
+/// What so many cases must have met of orders 6 and 8, and haven't: none of it was
+/// compared then.
+pub fn unmet(tally: &Tally, cases: u64) -> Vec<String> {
+    if cases < 10_000 {
+        return vec![];
+    }
+    let all = files::to_meet().chain(keys::to_meet());
+    all.filter(|&(call, word, number)| tally.count(call, word, number) == 0)
+        .map(|(call, word, number)| format!("{call} {word} {number} was never met"))
+        .collect()
+}
 
 /// Runs one case; says what differs or goes against demand 3 or an order.
 pub fn run_case(desks: &mut Desks, seed: u64, case: u64) -> Checked<()> {
     let mut rng = Rng::new(seed, case);
-    match rng.below(118) {
+    match rng.below(130) {
         0..=37 => {
             let task = maker::task(&mut rng);
             search(desks, &mut rng, &task)
@@ -29,7 +41,8 @@ pub fn run_case(desks: &mut Desks, seed: u64, case: u64) -> Checked<()> {
         92..=99 => maps::map(desks, &mut rng),
         100..=106 => files::written(desks, &mut rng),
         107..=111 => files::any_file(desks, &mut rng),
-        _ => limited::ranked_otherwise(desks, &mut rng),
+        112..=117 => limited::ranked_otherwise(desks, &mut rng),
+        _ => keys::changed(desks, &mut rng),
     }
 }
 
@@ -44,11 +57,12 @@ fn search(desks: &mut Desks, rng: &mut Rng, task: &Task) -> Checked<()> {
         let call = maker::call(rng, &row, eager_percent);
         let reply = limited::call(desks, rng, call, &mut row, task.graph(), true)?;
         watch.see(reply)?;
+        watch.see_keys(&row)?;
         if let Reply::Brought(_) = reply {
             watch.see_labels(&row)?;
         }
         if rng.percent(3) {
-            read_path(desks, rng, &row, task)?;
+            watch.see(read_path(desks, rng, &row, task)?)?;
         }
         match reply {
             Reply::Found(cost) => {
@@ -59,14 +73,14 @@ fn search(desks: &mut Desks, rng: &mut Rng, task: &Task) -> Checked<()> {
             _ => calls_left -= 1,
         }
     }
-    read_end(desks, rng, row, task)
+    for _ in 0..3 {
+        watch.see(read_path(desks, rng, &row, task)?)?;
+    }
+    read_damaged(desks, rng, row, task)
 }
 
-/// Readings of an ended search's path, and of that path after some damage.
-fn read_end(desks: &mut Desks, rng: &mut Rng, mut row: Vec<u32>, task: &Task) -> Checked<()> {
-    for _ in 0..3 {
-        read_path(desks, rng, &row, task)?;
-    }
+/// Readings of a found path after some damage.
+fn read_damaged(desks: &mut Desks, rng: &mut Rng, mut row: Vec<u32>, task: &Task) -> Checked<()> {
     if row[PHASE] == u32::from(FOUND) {
         let mut task = task.clone();
         for _ in 0..3 {
@@ -93,14 +107,14 @@ fn check_path(
 }
 
 /// A reading into a random buffer from a random place on.
-fn read_path(desks: &mut Desks, rng: &mut Rng, row: &[u32], task: &Task) -> Checked<()> {
+fn read_path(desks: &mut Desks, rng: &mut Rng, row: &[u32], task: &Task) -> Checked<Reply> {
     let mut states = vec![0; task.head.n];
     let count = match Independent.path(row, task.graph(), &mut states, 0) {
         code if code >> 32 == 6 => code as u32 as usize,
         _ => rng.below(9),
     };
     let (mut buffer, at) = maker::buffer(rng, count);
-    desks.path(row, task.graph(), &mut buffer, at).map(drop)
+    desks.path(row, task.graph(), &mut buffer, at)
 }
 
 /// A task with something wrong, a row that may have another length, and calls
@@ -108,7 +122,7 @@ fn read_path(desks: &mut Desks, rng: &mut Rng, row: &[u32], task: &Task) -> Chec
 fn refused_opening(desks: &mut Desks, rng: &mut Rng) -> Checked<()> {
     let task = maker::broken_task(rng);
     let len = match rng.below(20) {
-        0 => rng.pick(&[0, 806, 808]),
+        0 => rng.pick(&[0, 807, ROW - 1, ROW + 1]),
         _ => ROW,
     };
     let mut row = junk(len);
@@ -155,6 +169,7 @@ fn mornings(desks: &mut Desks, rng: &mut Rng) -> Checked<()> {
             }
         }
         watch.see_labels(&row)?;
+        watch.see_keys(&row)?;
     }
     Ok(())
 }

@@ -8,13 +8,15 @@
 //! sums, that it names the state that is waited for; of a morning (order 2) that
 //! it leaves what as many single calls to the same desk leave. What order 3 asks
 //! is in `maps`, what order 5 asks in `opening`, what order 6 asks in `files`, what
-//! order 7 asks in `limited`; demand 3 includes the limited Take.
+//! order 7 asks in `limited`, what order 8 asks in `keys`; demand 3 includes the
+//! limited Take.
 
 use crate::desk::{is_blocked, Graph, Machine, Reply, Task, MAX_STATES, NONE, OPEN, OUT};
 use crate::morning::Event;
 use crate::rows::{self, RowDesk, Shown, VIAS};
 
 pub mod files;
+pub mod keys;
 pub mod limited;
 pub mod maps;
 pub mod opening;
@@ -35,7 +37,8 @@ impl<'a> Watch<'a> {
         }
     }
 
-    /// Takes in a reply of Take, limited Take or Bring; says what is wrong with it.
+    /// Takes in a reply of Take, limited Take, Bring or a path reading; says what is
+    /// wrong with it.
     pub fn see(&mut self, reply: Reply) -> Result<(), String> {
         match reply {
             Reply::Took(state) => self.see_dealt(state as usize),
@@ -44,7 +47,9 @@ impl<'a> Watch<'a> {
                 Some(cost) => Err(format!("NoPath, but a route costs {cost}")),
                 None => Ok(()),
             },
-            Reply::Refused(12) => Err("refusal 12 on a machine reached by calls".into()),
+            Reply::Refused(number @ (8 | 12)) => {
+                Err(format!("refusal {number} on a machine reached by calls"))
+            }
             _ => Ok(()),
         }
     }
@@ -82,6 +87,11 @@ impl<'a> Watch<'a> {
             }
         }
         Ok(())
+    }
+
+    /// Checks the keys of the machine in `row`.
+    pub fn see_keys(&self, row: &[u32]) -> Result<(), String> {
+        keys::see_reached(row, self.task)
     }
 
     /// The passage of a number, if there is one.

@@ -1,5 +1,5 @@
 //! The independent desk: task, machine, opening, Take, Bring and path reading,
-//! written straight from document 01 and orders 1, 4, 5 and 7 of document 02.
+//! written straight from document 01 and orders 1, 4, 5, 7 and 8 of document 02.
 
 use crate::triangles::{self, Sweep};
 
@@ -75,6 +75,12 @@ impl Head {
             self.excess,
         ]
     }
+
+    /// The key of a state with a label: 100 * label + W * h(s, goal).
+    fn key(&self, graph: Graph, state: usize, label: u32) -> u64 {
+        let h = graph.estimates[state * self.n + self.goal];
+        100 * u64::from(label) + self.pull as u64 * u64::from(h)
+    }
 }
 
 /// The lent slices: passages as (from, to, cost), estimates h(a,b) at a * n + b.
@@ -110,6 +116,8 @@ pub struct Machine {
     pub labels: [u32; MAX_STATES],
     pub vias: [u16; MAX_STATES],
     pub held: [u16; MAX_WORKERS],
+    /// The key of each state, 0 for an unseen one (order 8).
+    pub keys: [u64; MAX_STATES],
 }
 
 /// The states that are open or out, by rising number.
@@ -159,11 +167,11 @@ impl Machine {
     ) -> Result<Machine, u32> {
         match opening_refusal(sweep, &head, graph) {
             Some(number) => Err(number),
-            None => Ok(Machine::fresh(head)),
+            None => Ok(Machine::fresh(head, graph)),
         }
     }
 
-    fn fresh(head: Head) -> Machine {
+    fn fresh(head: Head, graph: Graph) -> Machine {
         let mut machine = Machine {
             head,
             phase: SEARCHING,
@@ -171,8 +179,10 @@ impl Machine {
             labels: [0; MAX_STATES],
             vias: [NONE; MAX_STATES],
             held: [NONE; MAX_WORKERS],
+            keys: [0; MAX_STATES],
         };
         machine.marks[head.start] = OPEN;
+        machine.keys[head.start] = head.key(graph, head.start, 0);
         machine
     }
 
@@ -222,7 +232,7 @@ impl Machine {
             return Reply::Refused(11);
         }
         let state = self.held[worker];
-        let count = self.relax(graph.passages, usize::from(state));
+        let count = self.relax(graph, usize::from(state));
         self.marks[usize::from(state)] = FINISHED;
         self.held[worker] = NONE;
         Reply::Brought(count)
@@ -265,14 +275,28 @@ impl Machine {
         }
     }
 
-    /// Whether machine and lent slices fit; estimates and passage numbers are
-    /// not looked at, nor places past n or workers past k.
+    /// Whether machine and lent slices fit. Of the estimates only those to the goal
+    /// are looked at, for the keys; passage numbers are not, nor are places past n or
+    /// workers past k.
     pub fn fits(&self, graph: Graph) -> bool {
         shared_refusal(&self.head, graph).is_none()
             && self.phase <= NO_PATH
             && self.marks[..self.head.n].iter().all(|&m| m <= FINISHED)
             && self.labels[..self.head.n].iter().all(|&l| l <= MAX_LABEL)
             && self.holdings_fit()
+            && self.keys_fit(graph)
+    }
+
+    /// Whether the stored key of each state is the one that it has with its label and
+    /// the lent estimates, and 0 where it is unseen.
+    fn keys_fit(&self, graph: Graph) -> bool {
+        (0..self.head.n).all(|state| {
+            let key = match self.marks[state] {
+                UNSEEN => 0,
+                _ => self.head.key(graph, state, self.labels[state]),
+            };
+            self.keys[state] == key
+        })
     }
 
     /// Whether workers hold only out states, and each out state has one holder.
@@ -309,11 +333,6 @@ impl Machine {
         100 * (label_s - label_t) <= self.head.excess as i64 * h
     }
 
-    fn key(&self, graph: Graph, state: usize) -> u64 {
-        let h = graph.estimates[state * self.head.n + self.head.goal];
-        100 * u64::from(self.labels[state]) + self.head.pull as u64 * u64::from(h)
-    }
-
     /// The safe open state with the smallest key, the lowest among equals.
     fn best_safe(&self, graph: Graph, live: &[u16]) -> Option<usize> {
         let mut best = None;
@@ -322,7 +341,7 @@ impl Machine {
             if self.marks[state] != OPEN {
                 continue;
             }
-            let key = self.key(graph, state);
+            let key = self.keys[state];
             if key < best_key && self.is_safe(graph, live, state) {
                 best = Some(state);
                 best_key = key;
@@ -336,7 +355,7 @@ impl Machine {
     /// nothing open, the lowest-numbered out state.
     fn waited_for(&self, graph: Graph, live: &[u16]) -> Option<u16> {
         let open = (0..self.head.n).filter(|&s| self.marks[s] == OPEN);
-        match open.min_by_key(|&s| (self.key(graph, s), s)) {
+        match open.min_by_key(|&s| (self.keys[s], s)) {
             Some(smallest) => self.first_dependence(graph, live, smallest),
             // All that is live is out.
             None => live.first().copied(),
@@ -344,11 +363,11 @@ impl Machine {
     }
 
     /// Sets or lowers labels along the passages from `state`, all but the blocked
-    /// ones; says how often.
-    fn relax(&mut self, passages: &[u32], state: usize) -> u32 {
+    /// ones, and the keys with them; says how often.
+    fn relax(&mut self, graph: Graph, state: usize) -> u32 {
         let label = self.labels[state];
         let mut count = 0;
-        for (number, passage) in passages.chunks_exact(3).enumerate() {
+        for (number, passage) in graph.passages.chunks_exact(3).enumerate() {
             if passage[0] as usize != state || is_blocked(passage) {
                 continue;
             }
@@ -359,6 +378,7 @@ impl Machine {
                 self.marks[to] = OPEN;
                 self.labels[to] = sum;
                 self.vias[to] = number as u16;
+                self.keys[to] = self.head.key(graph, to, sum);
                 count += 1;
             }
         }

@@ -1,8 +1,8 @@
 //! Both desks, called alike: every reply, every number handed back, every place
 //! of every lent slice and the printed text are compared. Every Wait is held
 //! against order 1 of document 02, every morning against order 2, every opening
-//! against order 5, every file against order 6 and every limited Take against order
-//! 7; without a library only that is done.
+//! against order 5, every file against order 6, every limited Take against order 7
+//! and every call on a machine against order 8; without a library only that is done.
 
 use crate::demand::{self, Morning};
 use crate::desk::{Action, Graph, Reply, Task};
@@ -69,6 +69,9 @@ impl<'a> Desks<'a> {
         if row.len() == ROW {
             demand::opening::see_opening(task, reply)?;
         }
+        if reply == Reply::Opened {
+            demand::keys::see_reached(row, task)?;
+        }
         Ok(reply)
     }
 
@@ -80,10 +83,13 @@ impl<'a> Desks<'a> {
         worker: usize,
     ) -> Checked<Reply> {
         self.show(|| format!("{action:?} worker {worker}"));
-        match action {
+        let before = row.to_vec();
+        let reply = match action {
             Action::Take => self.take(row, graph, worker),
             Action::Bring => self.both("bring", row, |desk, row| desk.bring(row, graph, worker)),
-        }
+        }?;
+        demand::keys::see_calls([&before, row], graph.estimates, &[reply])?;
+        Ok(reply)
     }
 
     /// A Take; a Wait, which leaves the machine as it was, is held against order 1.
@@ -103,9 +109,11 @@ impl<'a> Desks<'a> {
         at: usize,
     ) -> Checked<Reply> {
         self.show(|| format!("path into {} places from {at}", buffer.len()));
-        self.both("path", buffer, |desk, buffer| {
+        let reply = self.both("path", buffer, |desk, buffer| {
             desk.path(row, graph, buffer, at)
-        })
+        })?;
+        demand::keys::see_calls([row; 2], graph.estimates, &[reply])?;
+        Ok(reply)
     }
 
     /// A morning, held against as many single calls.
@@ -130,11 +138,13 @@ impl<'a> Desks<'a> {
             replies: [&replies_before, replies],
         };
         demand::see_morning(self.checked(), reply, &morning)?;
+        let mut served = Vec::new();
         if reply == Reply::Done {
             for &code in &replies[..events.len()] {
-                self.count_reply("event", code)?;
+                served.push(self.count_reply("event", code)?);
             }
         }
+        demand::keys::see_calls([&row_before, row], graph.estimates, &served)?;
         Ok(reply)
     }
 

@@ -1,4 +1,4 @@
-//! An independent route desk, written from document 01 and orders 1 to 7 of
+//! An independent route desk, written from document 01 and orders 1 to 8 of
 //! document 02 alone, and what compares the proved desk with it.
 //!
 //! - `desk`: the task, the machine, opening, Take, limited Take, Bring and path
@@ -11,8 +11,8 @@
 //! - `library`: the proved desk behind that interface (the only unsafe code).
 //! - `maker`: random tasks, machines, calls, buffers and files, from a seed.
 //! - `demand`: what demand 3 asks of a run, checked with an own Dijkstra, and
-//!   what the orders ask of a Wait, a morning, a map, an opening, a file and a
-//!   limited Take.
+//!   what the orders ask of a Wait, a morning, a map, an opening, a file, a limited
+//!   Take and the stored keys.
 //! - `compare`: one case of the comparison.
 //! - `desks`: both desks, called alike.
 //! - `samples`: the sample maps and task files.

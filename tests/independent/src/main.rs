@@ -8,7 +8,7 @@
 //! nothing: only the documents' runs, demand 3 and the orders' checks on the
 //! independent desk), `--progress` (names each case before it is run, should the
 //! library crash).
-//! With 10,000 cases or more, something of order 6 that none of them met is a
+//! With 10,000 cases or more, something of orders 6 and 8 that none of them met is a
 //! difference too.
 //! The last line is `compared N cases, D differences`; status 1 where D > 0.
 

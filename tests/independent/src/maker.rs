@@ -5,13 +5,15 @@ use crate::desk::{
     is_blocked, Action, Graph, Head, Task, BLOCKED, FOUND, MAX_COST, MAX_LABEL, MAX_PASSAGES,
     MAX_STATES, NONE, OPEN, OUT, SEARCHING, UNSEEN,
 };
-use crate::rows::{Independent, RowDesk, HELD, LABELS, MARKS, PHASE, ROW, VIAS};
+use crate::rows::{Independent, RowDesk, HELD, KEYS, LABELS, MARKS, PHASE, ROW, VIAS};
 use crate::taskfile::MAX_FILE;
 
+mod keys;
 mod map;
 mod morning;
 mod writing;
 
+pub use keys::{changed_keys, set_keys, KeyChange, KEY_CHANGES};
 pub use map::{lent, map, map_cell, map_state, map_task};
 pub use morning::morning;
 pub use writing::{file_buffer, writing};
@@ -443,8 +445,29 @@ fn lent_len(rng: &mut Rng, count: usize) -> usize {
 
 // ---- Made-up machines ----
 
-/// A task and a machine that need not be one that calls can reach.
+/// A task and a machine that need not be one that calls can reach, nor fit. The keys
+/// are mostly right for what else the row says, so that this alone may be wrong.
 pub fn made_up(rng: &mut Rng) -> (Task, Vec<u32>) {
+    let (mut task, mut row) = undamaged(rng);
+    if rng.percent(45) {
+        for _ in 0..rng.pick(&[1, 1, 1, 2, 3]) {
+            damage_row(rng, &mut row);
+        }
+        if rng.percent(80) {
+            set_keys(&mut row, &task.estimates);
+        }
+    }
+    if rng.percent(5) && row.len() == ROW {
+        keys::damage_key(rng, &mut row);
+    }
+    if rng.percent(8) {
+        damage_slices(rng, &mut task);
+    }
+    (task, row)
+}
+
+/// A task and a machine that fits, which need not be one that calls can reach.
+fn undamaged(rng: &mut Rng) -> (Task, Vec<u32>) {
     let mut task = made_up_task(rng);
     let mut row = made_up_row(rng, &task);
     match rng.below(100) {
@@ -452,14 +475,7 @@ pub fn made_up(rng: &mut Rng) -> (Task, Vec<u32>) {
         20..=34 => lead_on(rng, &mut task, &mut row),
         _ => {}
     }
-    if rng.percent(45) {
-        for _ in 0..rng.pick(&[1, 1, 1, 2, 3]) {
-            damage_row(rng, &mut row);
-        }
-    }
-    if rng.percent(8) {
-        damage_slices(rng, &mut task);
-    }
+    set_keys(&mut row, &task.estimates);
     (task, row)
 }
 
@@ -472,6 +488,7 @@ pub fn ranked_otherwise(rng: &mut Rng) -> (Task, Vec<u32>) {
     task.head.pull = rng.between(1, task.head.excess);
     let mut row = made_up_row(rng, &task);
     hold_back(rng, &mut task, &mut row);
+    set_keys(&mut row, &task.estimates);
     (task, row)
 }
 
@@ -524,9 +541,10 @@ fn junk_row(rng: &mut Rng) -> Vec<u32> {
     if rng.percent(50) {
         row[MARKS..LABELS].fill_with(|| rng.up_to(255));
         row[LABELS..VIAS].fill_with(|| rng.up_to(u32::MAX));
-        row[VIAS..].fill_with(|| rng.up_to(65_535));
+        row[VIAS..KEYS].fill_with(|| rng.up_to(65_535));
+        row[KEYS..].fill_with(|| rng.up_to(u32::MAX));
     } else {
-        row[VIAS..].fill(u32::from(NONE));
+        row[VIAS..KEYS].fill(u32::from(NONE));
     }
     row
 }
@@ -646,7 +664,7 @@ fn damage_row(rng: &mut Rng, row: &mut Vec<u32>) {
         12 => row[HELD + worker] = some_held(row, k),
         13 => row[HELD + rng.below(32)] = rng.pick(&[state as u32, 65_535, 65_536]),
         14 => row[MARKS + rng.below(256)] = rng.pick(&[1, 255, 256]),
-        _ => row.resize(rng.pick(&[0, 1, 256, 806, 808, 1614]), 0),
+        _ => row.resize(rng.pick(&[0, 1, 807, ROW - 1, ROW + 1, 2 * ROW]), 0),
     }
 }
 
@@ -667,7 +685,7 @@ fn damage_slices(rng: &mut Rng, task: &mut Task) {
 }
 
 /// A change to a machine whose path was found, or to its task, for reading that
-/// path.
+/// path; the keys are mostly right for it.
 pub fn damage_found(rng: &mut Rng, row: &mut [u32], task: &mut Task) {
     let n = task.head.n;
     let state = rng.below(n);
@@ -686,6 +704,9 @@ pub fn damage_found(rng: &mut Rng, row: &mut [u32], task: &mut Task) {
             block(row, task, task.head.goal);
             lower_goal(row, task);
         }
+    }
+    if rng.percent(85) {
+        set_keys(row, &task.estimates);
     }
 }
 

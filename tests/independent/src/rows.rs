@@ -1,4 +1,4 @@
-//! The interface that both desks are called through: a machine as a row of 807
+//! The interface that both desks are called through: a machine as a row of 1,319
 //! numbers, a reply as one number; a map's counts and cells, and what came of writing
 //! or reading a task file, as one number too.
 //! `Independent` puts the independent desk behind it, so that comparison and bench
@@ -11,12 +11,14 @@ use crate::taskfile::{self, Fault, Lent};
 use std::fmt;
 
 /// Length of a machine row, and where its parts begin.
-pub const ROW: usize = HELD + MAX_WORKERS;
+pub const ROW: usize = KEYS + 2 * MAX_STATES;
 pub const PHASE: usize = 6;
 pub const MARKS: usize = 7;
 pub const LABELS: usize = MARKS + MAX_STATES;
 pub const VIAS: usize = LABELS + MAX_STATES;
 pub const HELD: usize = VIAS + MAX_STATES;
+/// Two places for each state: the low 32 bits of its key, then the high ones.
+pub const KEYS: usize = HELD + MAX_WORKERS;
 
 /// The room that `print` asks for.
 pub const PRINT_ROOM: usize = 589_824;
@@ -182,7 +184,7 @@ impl fmt::Display for Shown {
 pub fn decode(row: &[u32]) -> Option<Machine> {
     let row: &[u32; ROW] = row.try_into().ok()?;
     let bytes = all_below_power(&row[PHASE..LABELS], 8);
-    let pairs = all_below_power(&row[4..6], 16) && all_below_power(&row[VIAS..], 16);
+    let pairs = all_below_power(&row[4..6], 16) && all_below_power(&row[VIAS..KEYS], 16);
     if !(bytes && pairs) {
         return None;
     }
@@ -201,6 +203,7 @@ pub fn decode(row: &[u32]) -> Option<Machine> {
         labels: std::array::from_fn(|i| row[LABELS + i]),
         vias: std::array::from_fn(|i| row[VIAS + i] as u16),
         held: std::array::from_fn(|i| row[HELD + i] as u16),
+        keys: std::array::from_fn(|i| key(row, i)),
     })
 }
 
@@ -223,7 +226,25 @@ pub fn encode(machine: &Machine, row: &mut [u32]) {
         &mut row[VIAS..HELD],
         machine.vias.iter().map(|&v| u32::from(v)),
     );
-    fill(&mut row[HELD..], machine.held.iter().map(|&h| u32::from(h)));
+    fill(
+        &mut row[HELD..KEYS],
+        machine.held.iter().map(|&h| u32::from(h)),
+    );
+    for (state, &key) in machine.keys.iter().enumerate() {
+        set_key(row, state, key);
+    }
+}
+
+/// The key that a row stores of a state.
+pub fn key(row: &[u32], state: usize) -> u64 {
+    let [low, high] = [0, 1].map(|half| u64::from(row[KEYS + 2 * state + half]));
+    high << 32 | low
+}
+
+/// Stores a state's key in a row.
+pub fn set_key(row: &mut [u32], state: usize, key: u64) {
+    row[KEYS + 2 * state] = key as u32;
+    row[KEYS + 2 * state + 1] = (key >> 32) as u32;
 }
 
 fn fill(places: &mut [u32], numbers: impl Iterator<Item = u32>) {

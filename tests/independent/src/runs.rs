@@ -9,6 +9,7 @@ use crate::rows::{self, RowDesk, Shown, PRINT_ROOM, ROW};
 
 mod blocked;
 mod files;
+mod keys;
 mod limited;
 mod maps;
 mod morning;
@@ -56,6 +57,7 @@ pub fn all() -> impl Iterator<Item = &'static Run> {
         opening::RUNS,
         files::RUNS,
         limited::RUNS,
+        keys::RUNS,
     ]
     .into_iter()
     .flatten()

@@ -6,9 +6,12 @@ use crate::taskfile::Fault;
 use std::collections::BTreeMap;
 use std::fmt;
 
+/// What is counted: a call, a word for what it gave, and a number with it.
+pub type Met = (&'static str, &'static str, u32);
+
 #[derive(Default)]
 pub struct Tally {
-    counts: BTreeMap<(&'static str, &'static str, u32), u64>,
+    counts: BTreeMap<Met, u64>,
 }
 
 impl Tally {
@@ -81,6 +84,17 @@ impl Tally {
     /// Counts a slice that alone was too short for a file.
     pub fn add_short(&mut self, name: &'static str) {
         self.add("file_read-27", name, 0);
+    }
+
+    /// Counts a machine that would fit, were its keys not wrong by the change of this
+    /// name, and its phase; or one that fits after the change.
+    pub fn add_keys(&mut self, name: &'static str, is_wrong: bool, phase: &'static str) {
+        if is_wrong {
+            self.add("keys-wrong", name, 0);
+            self.add("keys-wrong-in", phase, 0);
+        } else {
+            self.add("keys-right", name, 0);
+        }
     }
 
     /// How often a call gave this.

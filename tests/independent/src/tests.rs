@@ -9,20 +9,29 @@ use crate::desk::{
     MAX_PASSAGES, NONE, OPEN, OUT, UNSEEN,
 };
 use crate::desks::Desks;
-use crate::maker::{self, Rng};
-use crate::rows::{self, Independent, RowDesk, PRINT_ROOM, ROW};
+use crate::maker::{self, Rng, KEY_CHANGES};
+use crate::rows::{self, Independent, RowDesk, KEYS, PRINT_ROOM, ROW};
 use crate::runs::{self, task_a};
 use crate::tally::Tally;
-use crate::taskfile::{self, Fault, Lent, MAX_FILE};
+use crate::taskfile::{self, Fault, Lent, CLAUSES, MAX_FILE};
 
 mod blocked;
 mod files;
+mod keys;
 mod limited;
 mod map;
 mod morning;
 mod opening;
 
 type Change = fn(&mut Machine);
+
+/// Gives a machine the right keys for what else it holds.
+fn set_keys(machine: &mut Machine, graph: Graph) {
+    let mut row = vec![0; ROW];
+    rows::encode(machine, &mut row);
+    maker::set_keys(&mut row, graph.estimates);
+    machine.keys = std::array::from_fn(|state| rows::key(&row, state));
+}
 
 fn opened(task: &Task) -> Machine {
     Machine::open(task.head, task.graph()).expect("an accepted task")
@@ -49,7 +58,12 @@ fn runs_of_the_documents() {
 fn runs_of_the_orders_can_fail() {
     let wrongs = [
         Wrong {
-            open: |_, reply| reply ^ 1,
+            open: |_, row, reply| {
+                if reply == 0 {
+                    row[ROW - 1] ^= 1;
+                }
+                reply ^ 1
+            },
             limited: |row, graph, worker, limit| {
                 Independent.take_limited(row, graph, worker, limit) ^ 1 << 40
             },
@@ -73,6 +87,29 @@ fn runs_of_the_orders_can_fail() {
         },
         Wrong {
             cost: |cost| if cost > MAX_COST { BLOCKED } else { cost },
+            ..RIGHT
+        },
+        Wrong {
+            stored: |_, row, graph| maker::set_keys(row, graph.estimates),
+            bring: |_, row, reply| {
+                if row.len() == ROW {
+                    rows::set_key(row, 5, 0);
+                }
+                reply
+            },
+            ..RIGHT
+        },
+        Wrong {
+            take: |row, reply| match row.len() {
+                807 => rows::code(Reply::NoPath),
+                _ => reply,
+            },
+            bring: |before, row, reply| {
+                if let Some(keys) = row.get_mut(KEYS..) {
+                    keys.copy_from_slice(&before[KEYS..]);
+                }
+                reply
+            },
             ..RIGHT
         },
     ];
@@ -161,6 +198,7 @@ fn opened_machine() {
     assert_eq!(machine.marks[0], OPEN);
     assert!(machine.marks[1..].iter().all(|&mark| mark == 0));
     assert!(machine.labels.iter().all(|&label| label == 0));
+    assert!(machine.keys.iter().all(|&key| key == 0));
     assert!(machine
         .vias
         .iter()
@@ -171,11 +209,12 @@ fn opened_machine() {
 
 // ---- Calls ----
 
-/// What Take answers to task A's opened machine after a change.
+/// What Take answers to task A's opened machine after a change, with right keys.
 fn take_after(change: impl FnOnce(&mut Machine)) -> Reply {
     let task = task_a();
     let mut machine = opened(&task);
     change(&mut machine);
+    set_keys(&mut machine, task.graph());
     let before = machine.clone();
     let reply = machine.take(task.graph(), 0);
     if matches!(reply, Reply::Refused(_) | Reply::Wait(_)) {
@@ -267,14 +306,17 @@ fn parallel_passages_lower_a_label_twice() {
 
 /// Task A with h(2,4) = 9, which opening would refuse, and a machine that worker
 /// 0's Take waits on: 1 has the smallest key and depends on 2 and on 3, which is
-/// out; 2 depends on 3 alone.
-fn waiting() -> (Task, Machine) {
+/// out; 2 depends on 3 alone. Then a change, and the keys that are right after it.
+fn waiting(change: impl FnOnce(&mut Machine)) -> (Task, Machine) {
+    let task = changed(|t| t.estimates[2 * 5 + 4] = 9);
     let mut machine = opened(&task_a());
     machine.head.k = 4;
     machine.marks[..5].copy_from_slice(&[FINISHED, OPEN, OPEN, OUT, UNSEEN]);
     machine.labels[1..3].copy_from_slice(&[10, 5]);
     machine.held[1] = 3;
-    (changed(|t| t.estimates[2 * 5 + 4] = 9), machine)
+    change(&mut machine);
+    set_keys(&mut machine, task.graph());
+    (task, machine)
 }
 
 /// Deals the open states of `waiting` to two more workers.
@@ -296,8 +338,7 @@ const WAITS: &[(u16, Change)] = &[
 #[test]
 fn wait_names_a_state() {
     for (line, &(state, change)) in WAITS.iter().enumerate() {
-        let (task, mut machine) = waiting();
-        change(&mut machine);
+        let (task, mut machine) = waiting(change);
         let reply = machine.take(task.graph(), 0);
         assert_eq!(reply, Reply::Wait(state), "line {line}");
     }
@@ -371,12 +412,15 @@ fn found_machine() -> Machine {
     machine.marks[..5].copy_from_slice(&[3, 3, 3, 3, 1]);
     machine.labels[..5].copy_from_slice(&[0, 2, 3, 5, 6]);
     machine.vias[1..5].copy_from_slice(&[0, 2, 3, 5]);
+    machine.keys[..5].copy_from_slice(&[0, 200, 300, 500, 600]);
     machine
 }
 
+/// What reading its path replies after a change, with right keys.
 fn read_after(change: impl FnOnce(&mut Machine)) -> Reply {
     let mut machine = found_machine();
     change(&mut machine);
+    set_keys(&mut machine, task_a().graph());
     machine.path(task_a().graph(), &mut [0; 5], 0)
 }
 
@@ -461,7 +505,7 @@ fn rows_of_wrong_numbers_or_length() {
         );
         assert_eq!(row, before);
     }
-    for len in [0, 806, 808] {
+    for len in [0, 806, 807, 808, 1318, 1320] {
         let mut row = vec![9; len];
         assert_eq!(Independent.open(&task, &mut row), refused);
         assert_eq!(Independent.bring(&mut row, task.graph(), 0), refused);
@@ -601,8 +645,7 @@ fn demand_3_catches_wrong_runs() {
 
 /// What is wrong with a Wait that names a state on `waiting` after a change.
 fn wait_fault(named: u16, change: Change) -> Option<String> {
-    let (task, mut machine) = waiting();
-    change(&mut machine);
+    let (task, machine) = waiting(change);
     let mut row = vec![0; ROW];
     rows::encode(&machine, &mut row);
     see_wait(&row, task.graph(), named).err()
@@ -636,9 +679,11 @@ fn wrong_waits_are_caught() {
 /// call hands back. The last number that each change is given is what the call
 /// returns.
 struct Wrong {
-    /// With the task.
-    open: fn(&Task, u64) -> u64,
+    /// With the task and the row.
+    open: OpenChange,
     take: fn(&mut [u32], u64) -> u64,
+    /// With the row before and after.
+    bring: BringChange,
     /// All of the call.
     limited: fn(&mut [u32], Graph, usize, usize) -> u64,
     /// With the machine's row, the events and the row of replies.
@@ -657,12 +702,18 @@ struct Wrong {
     cost: fn(u32) -> u32,
     /// What it takes a weight for, but in files.
     weight: fn(usize) -> usize,
+    /// What it takes the row for in a call of this name, with the lent slices.
+    stored: fn(&str, &mut [u32], Graph),
 }
+
+type OpenChange = fn(&Task, &mut [u32], u64) -> u64;
+type BringChange = fn(&[u32], &mut [u32], u64) -> u64;
 
 /// A stand-in with nothing wrong, to be changed.
 const RIGHT: Wrong = Wrong {
-    open: |_, reply| reply,
+    open: |_, _, reply| reply,
     take: |_, reply| reply,
+    bring: |_, _, reply| reply,
     limited: |row, graph, worker, limit| Independent.take_limited(row, graph, worker, limit),
     morning: |_, _, _, reply| reply,
     map: |_, _, counts| counts,
@@ -673,6 +724,7 @@ const RIGHT: Wrong = Wrong {
     file_read: |_, number| number,
     cost: |cost| cost,
     weight: |weight| weight,
+    stored: |_, _, _| {},
 };
 
 impl Wrong {
@@ -684,11 +736,29 @@ impl Wrong {
         }
         passages
     }
-}
 
-/// A graph with other passages.
-fn with_passages<'a>(graph: Graph<'a>, passages: &'a [u32]) -> Graph<'a> {
-    Graph { passages, ..graph }
+    /// Makes a call of this name on the row as this desk takes it, with the passages as
+    /// it takes them. Refused, it leaves the row.
+    fn on_row(
+        &self,
+        name: &str,
+        row: &mut [u32],
+        graph: Graph,
+        call: impl FnOnce(&mut [u32], Graph) -> u64,
+    ) -> u64 {
+        let passages = self.passages(graph.passages);
+        let graph = Graph {
+            passages: &passages,
+            ..graph
+        };
+        let mut taken = row.to_vec();
+        (self.stored)(name, &mut taken, graph);
+        let code = call(&mut taken, graph);
+        if code >> 32 & 255 != 7 {
+            row.copy_from_slice(&taken);
+        }
+        code
+    }
 }
 
 impl RowDesk for Wrong {
@@ -698,29 +768,35 @@ impl RowDesk for Wrong {
         task.head.pull = (self.weight)(task.head.pull);
         task.head.excess = (self.weight)(task.head.excess);
         let reply = Independent.open(&task, row);
-        (self.open)(&task, reply)
+        (self.open)(&task, row, reply)
     }
     fn take(&self, row: &mut [u32], graph: Graph, worker: usize) -> u64 {
-        let passages = self.passages(graph.passages);
-        let reply = Independent.take(row, with_passages(graph, &passages), worker);
+        let reply = self.on_row("take", row, graph, |row, graph| {
+            Independent.take(row, graph, worker)
+        });
         (self.take)(row, reply)
     }
     fn take_limited(&self, row: &mut [u32], graph: Graph, worker: usize, limit: usize) -> u64 {
-        let passages = self.passages(graph.passages);
-        (self.limited)(row, with_passages(graph, &passages), worker, limit)
+        self.on_row("limited", row, graph, |row, graph| {
+            (self.limited)(row, graph, worker, limit)
+        })
     }
     fn bring(&self, row: &mut [u32], graph: Graph, worker: usize) -> u64 {
-        let passages = self.passages(graph.passages);
-        Independent.bring(row, with_passages(graph, &passages), worker)
+        let before = row.to_vec();
+        let reply = self.on_row("bring", row, graph, |row, graph| {
+            Independent.bring(row, graph, worker)
+        });
+        (self.bring)(&before, row, reply)
     }
     fn path(&self, row: &[u32], graph: Graph, buffer: &mut [u16], at: usize) -> u64 {
-        let passages = self.passages(graph.passages);
-        Independent.path(row, with_passages(graph, &passages), buffer, at)
+        self.on_row("path", &mut row.to_vec(), graph, |row, graph| {
+            Independent.path(row, graph, buffer, at)
+        })
     }
     fn morning(&self, row: &mut [u32], graph: Graph, events: &[u32], replies: &mut [u64]) -> u64 {
-        let passages = self.passages(graph.passages);
-        let graph = with_passages(graph, &passages);
-        let reply = Independent.morning(row, graph, events, replies);
+        let reply = self.on_row("morning", row, graph, |row, graph| {
+            Independent.morning(row, graph, events, replies)
+        });
         (self.morning)(row, events, replies, reply)
     }
     fn map(&self, text: &[u8], passages: &mut [u32], estimates: &mut [u32]) -> u64 {
@@ -829,6 +905,17 @@ fn cases_meet_everything() {
     met("file_read", "fault", &[21, 22, 23, 27]);
     met("print", "opening", &[1, 2, 3]);
     assert_eq!(unmet(&tally, 10_000), Vec::<String>::new());
+}
+
+/// Something of orders 6 and 8 that was not met is said, with cases enough for it.
+#[test]
+fn what_is_unmet_is_said() {
+    let missing = unmet(&Tally::default(), 10_000);
+    let (files, keys) = (CLAUSES.len() + 2 + 3 + 4, KEY_CHANGES.len() + 3);
+    assert_eq!(missing.len(), files + keys);
+    assert_eq!(missing[0], "file_write-24 n 0 was never met");
+    assert_eq!(missing[files], "keys-wrong one-up 0 was never met");
+    assert!(unmet(&Tally::default(), 9_999).is_empty());
 }
 
 #[test]

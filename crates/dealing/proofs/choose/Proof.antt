@@ -5,44 +5,47 @@ use mathlib.Core.Logic.{⊎-elim, inl, inr}
 use Prim.Native.Nat.{_≤_, _-_}
 use native.Mathlib.Omega.{arith}
 use denote.Ref.{now}
+use lib.ListN.{getD}
 use borrow.Author.Needs.{needs}
+use borrow.Author.Tests.{eq-eqb}
 use Rattle.laws.specs.First.{first, first-zero, first-more}
+use Rattle.rule.specs.Marks.{waiting}
 use Rattle.dealing.specs.Board.{Board, board, dependsOn, key}
-use Rattle.dealing.specs.Laws.{depends-self, depends-dead, depends-other, safe-passed, key-is, Leads, leads-zero, leads-shut, leads-lost, leads-behind, leads-front, leads-safe, leads-chosen, leads-stopped, leads-none}
+use Rattle.dealing.specs.Laws.{depends-self, depends-dead, depends-other, safe-passed, Leads, leads-zero, leads-shut, leads-lost, leads-behind, leads-front, leads-safe, leads-chosen, leads-stopped, leads-none}
 use Rattle.dealing.proofs.choose.Statement.{statement}
 use Rattle.dealing.proofs.choose.Tie as tie
 
 abbrev Inv-loop : tie.InvT-loop
-Inv-loop mark label estimates n excess goal pull best least front₀ ahead₀ stop₀ next s label-s key t₀ front ahead stop t =
+Inv-loop mark label key estimates n excess goal pull best least front₀ ahead₀ stop₀ next s label-s key-s t₀ front ahead stop t =
     (t ≤ n) × Leads goal pull (board n excess estimates mark label) s best least front ahead stop × (first (dependsOn (board n excess estimates mark label) s) t ≡ t)
 
 abbrev μ-loop : tie.MeasureT-loop
-μ-loop mark label estimates n excess goal pull best least front₀ ahead₀ stop₀ next s label-s key t₀ front ahead stop t =
+μ-loop mark label key estimates n excess goal pull best least front₀ ahead₀ stop₀ next s label-s key-s t₀ front ahead stop t =
     n - t
 
 abbrev Inv-candidates : tie.InvT-candidates
-Inv-candidates mark label estimates n excess goal pull best₀ least₀ front₀ ahead₀ stop₀ next₀ best least front ahead stop next =
+Inv-candidates mark label key estimates n excess goal pull best₀ least₀ front₀ ahead₀ stop₀ next₀ best least front ahead stop next =
     (next ≤ n) × Leads goal pull (board n excess estimates mark label) next best least front ahead stop
 
 abbrev μ-candidates : tie.MeasureT-candidates
-μ-candidates mark label estimates n excess goal pull best₀ least₀ front₀ ahead₀ stop₀ next₀ best least front ahead stop next =
+μ-candidates mark label key estimates n excess goal pull best₀ least₀ front₀ ahead₀ stop₀ next₀ best least front ahead stop next =
     n - next
 
 -- what is lent, as a board
 abbrev lent : tie.Start Inv-loop μ-loop Inv-candidates μ-candidates → Board
 lent s = board (s .args .n) (s .args .excess) (now (s .args .estimates)) (now (s .args .mark)) (now (s .args .label))
 
--- the key that was computed is the candidate's
+-- the stored key is the candidate's
 its-key :
-    (c : tie.After-key Inv-loop μ-loop Inv-candidates μ-candidates)
-    → c .key .result ≡ key (c .before .before .before .before .before .before .before .before .args .goal) (c .before .before .before .before .before .before .before .before .args .pull) (lent (c .before .before .before .before .before .before .before .before)) (c .before .before .before .before .before .before .candidates .next)
-its-key c = key-is _ _ _ _ _ _ (c .key .ensures) (c .before .estimate .ensures)
+    (c : tie.After-key-s Inv-loop μ-loop Inv-candidates μ-candidates)
+    → let s = c .before .before .before .before .before .before .before in let at = c .before .before .before .before .before .candidates .next in getD (now (s .args .key)) at 0 ≡ key (s .args .goal) (s .args .pull) (lent s) at
+its-key c = c .before .before .before .before .before .before .before .pre .0 .at _ (c .before .before .before .before .candidates-test .taken) (eq-eqb _ waiting (c .before .before .if1 .left))
 
 -- where the test stops, the candidate depends on t
 held :
     (c : tie.Then6 Inv-loop μ-loop Inv-candidates μ-candidates)
-    → dependsOn (lent (c .before .before .before .before .before .before .before .before .before .before .before .before .before .before .before .before .before .before .before .before)) (c .before .before .before .before .before .before .before .before .before .before .before .before .before .before .before .before .before .before .candidates .next) (c .before .before .before .before .before .before .before .before .before .before .loop .t) ≡ true
-held c = depends-other _ _ _ _ true (c .before .before .before .before .before .if5 .taken) (c .before .before .before .before .estimate2 .ensures) (sym (c .if6 .taken) ∙ c .before .holds-back .ensures)
+    → dependsOn (lent (c .before .before .before .before .before .before .before .before .before .before .before .before .before .before .before .before .before .before .before)) (c .before .before .before .before .before .before .before .before .before .before .before .before .before .before .before .before .before .candidates .next) (c .before .before .before .before .before .before .before .before .before .before .loop .t) ≡ true
+held c = depends-other _ _ _ _ true (c .before .before .before .before .before .if5 .taken) (c .before .before .before .before .estimate .ensures) (sym (c .if6 .taken) ∙ c .before .holds-back .ensures)
 
 candidates-holds : tie.Need-candidates-holds Inv-loop μ-loop Inv-candidates μ-candidates
 candidates-holds c = (search needs, leads-zero _ _ _ _ _ _)
@@ -68,23 +71,24 @@ element-copy-out-label-s :
     tie.Need-element-copy-out-label-s Inv-loop μ-loop Inv-candidates μ-candidates
 element-copy-out-label-s c = search needs
 
-estimate-requires : tie.Need-estimate-requires Inv-loop μ-loop Inv-candidates μ-candidates
-estimate-requires c κs = search needs
+mul-key-s : tie.Need-mul-key-s Inv-loop μ-loop Inv-candidates μ-candidates
+mul-key-s c = search needs
 
-key-requires : tie.Need-key-requires Inv-loop μ-loop Inv-candidates μ-candidates
-key-requires c κs = search needs
+element-copy-out-key-s :
+    tie.Need-element-copy-out-key-s Inv-loop μ-loop Inv-candidates μ-candidates
+element-copy-out-key-s c = search needs
 
 candidates-less-2 : tie.Need-candidates-less-2 Inv-loop μ-loop Inv-candidates μ-candidates
 candidates-less-2 c = search needs
 
 candidates-again-2 : tie.Need-candidates-again-2 Inv-loop μ-loop Inv-candidates μ-candidates
 candidates-again-2 c =
-    let o = c .before .before .before .before .before .before .before .before .candidates in
+    let o = c .before .before .before .before .before .before .before .candidates in
     (search needs, leads-lost _ _ _ _ _ _ _ _ _ (o .inv .1) (c .before .if2 .taken) (omega (arith, its-key (c .before .before), c .if3 .taken)))
 
 loop-holds : tie.Need-loop-holds Inv-loop μ-loop Inv-candidates μ-candidates
 loop-holds c =
-    let o = c .before .before .before .before .before .before .before .candidates in
+    let o = c .before .before .before .before .before .before .candidates in
     (search needs, o .inv .1, first-zero _)
 
 element-copy-out-is-live :
@@ -94,8 +98,8 @@ element-copy-out-is-live c = search needs
 is-live-requires : tie.Need-is-live-requires Inv-loop μ-loop Inv-candidates μ-candidates
 is-live-requires c κs = search needs
 
-estimate-requires-2 : tie.Need-estimate-requires-2 Inv-loop μ-loop Inv-candidates μ-candidates
-estimate-requires-2 c κs = search needs
+estimate-requires : tie.Need-estimate-requires Inv-loop μ-loop Inv-candidates μ-candidates
+estimate-requires c κs = search needs
 
 element-copy-out-holds-back :
     tie.Need-element-copy-out-holds-back Inv-loop μ-loop Inv-candidates μ-candidates
@@ -133,7 +137,7 @@ candidates-again-4 c =
       rw (its-key (c .before .before .before .before .before .before .before .before .before .before .before .before .before .before))
           (leads-front _ _ _ _ _ _ _ _ _ (l .inv .1)
           (l .t) (l .inv .2) (held (c .before .before)) (c .before .before .before .before .before .before .before .before .before .before .before .loop-test .taken)
-          (c .before .before .before .before .before .before .before .before .before .before .before .before .before .before .before .before .before .if1 .left)
+          (c .before .before .before .before .before .before .before .before .before .before .before .before .before .before .before .before .if1 .left)
           (inr (c .before .if7 .taken, rw (its-key (c .before .before .before .before .before .before .before .before .before .before .before .before .before .before)) at (c .if8 .left)))),
     )
 
@@ -147,7 +151,7 @@ candidates-again-5 c =
       rw (its-key (c .before .before .before .before .before .before .before .before .before .before .before .before .before))
           (leads-front _ _ _ _ _ _ _ _ _ (l .inv .1)
           (l .t) (l .inv .2) (held (c .before)) (c .before .before .before .before .before .before .before .before .before .before .loop-test .taken)
-          (c .before .before .before .before .before .before .before .before .before .before .before .before .before .before .before .before .if1 .left) (inl (c .if7 .left))),
+          (c .before .before .before .before .before .before .before .before .before .before .before .before .before .before .before .if1 .left) (inl (c .if7 .left))),
     )
 
 add-t : tie.Need-add-t Inv-loop μ-loop Inv-candidates μ-candidates
@@ -179,8 +183,8 @@ candidates-again-6 c =
     let l = c .before .loop in (
       search needs,
       rw (its-key (c .before .before .before))
-          (leads-safe _ _ _ _ _ _ _ _ _ (l .inv .1) (c .before .before .before .before .before .before .before .before .candidates-test .taken)
-          (safe-passed _ _ (l .t) (c .before .before .before .before .before .before .if1 .left) (l .inv .2) (l .inv .0) (c .loop-test .left))
+          (leads-safe _ _ _ _ _ _ _ _ _ (l .inv .1) (c .before .before .before .before .before .before .before .candidates-test .taken)
+          (safe-passed _ _ (l .t) (c .before .before .before .before .before .if1 .left) (l .inv .2) (l .inv .0) (c .loop-test .left))
           (⊎-elim (λ w. inr (w .0 .taken, rw (its-key (c .before .before .before)) at (w .1 .left))) (λ w. inl (w .left)) (c .before .before .if2 .came))),
     )
 
@@ -214,14 +218,14 @@ choose-spec =
     candidates-again
     mul-label-s
     element-copy-out-label-s
-    estimate-requires
-    key-requires
+    mul-key-s
+    element-copy-out-key-s
     candidates-less-2
     candidates-again-2
     loop-holds
     element-copy-out-is-live
     is-live-requires
-    estimate-requires-2
+    estimate-requires
     element-copy-out-holds-back
     mul-holds-back
     element-copy-out-holds-back-2

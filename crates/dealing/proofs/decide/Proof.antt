@@ -41,11 +41,11 @@ element-copy-out-if1 c = search needs
 first-dependence-requires : tie.Need-first-dependence-requires
 first-dependence-requires c κs = search needs
 
-mul-t19 : tie.Need-mul-t19
-mul-t19 c = search needs
+mul-t20 : tie.Need-mul-t20
+mul-t20 c = search needs
 
-element-copy-out-t22 : tie.Need-element-copy-out-t22
-element-copy-out-t22 c = search needs
+element-copy-out-t23 : tie.Need-element-copy-out-t23
+element-copy-out-t23 c = search needs
 
 returns : tie.Need-returns
 returns c = decides-found _ _ _ (safe-open _ _ (c .before .before .before .if1 .taken) (sym (c .before .before .first-dependence .ensures) ∙ c .before .if2 .taken))
@@ -103,8 +103,8 @@ decide-spec =
     (tie.spec
     element-copy-out-if1
     first-dependence-requires
-    mul-t19
-    element-copy-out-t22
+    mul-t20
+    element-copy-out-t23
     returns
     first-marked-requires
     first-marked-requires-2

@@ -4,22 +4,16 @@ use denote.Ref.{now}
 use borrow.Author.Tests.{eq-eqb, ne-eqb}
 use borrow.Author.Needs.{needs}
 use Rattle.deskc.specs.Calls.{openRow}
-use Rattle.desk.specs.Laws.{Sized}
-use Rattle.deskc.specs.Laws.{packed-parts, opened-small, opening-clamped}
+use Rattle.deskc.specs.Laws.{packed-parts, opened-small, opened-sized, opening-clamped}
 use Rattle.deskc.proofs.desk_open.Statement.{statement}
 use Rattle.deskc.proofs.desk_open.Tie as tie
-
--- the opened machine's lists are as long as their types say
-module _ (c : tie.After-opening) where
-  sized : Sized (c .opening .result .machine)
-  sized = record { marks = search needs; labels = search needs; vias = search needs; workers = search needs }
 
 unfit-requires : tie.Need-unfit-requires
 unfit-requires c κs = search needs
 
 returns : tie.Need-returns
 unfolding openRow
-returns c = let e = ne-eqb _ 807 (c .before .if1 .taken) in (rw e (c .unfit .ensures), rw e refl)
+returns c = let e = ne-eqb _ 1319 (c .before .if1 .taken) in (rw e (c .unfit .ensures), rw e refl)
 
 clamp-requires : tie.Need-clamp-requires
 clamp-requires c κs = search needs
@@ -50,9 +44,9 @@ returns-2 c =
     let o = h .before .before .before in
     let b = o .before .before .before in
     let s = b .before .before .before .before in
-    let e = eq-eqb _ 807 (b .if1 .left) in
+    let e = eq-eqb _ 1319 (b .if1 .left) in
     let g = rw (o .before .before .clamp .ensures, o .before .clamp2 .ensures) at (o .opening .ensures) ∙ opening-clamped _ _ _ _ _ _ _ _ in
-    (rw (e, ← g) (c .code .ensures), rw (e, ← g) (p .put-changing .ensures ∙ packed-parts (now (s .args .machine)) _ _ (b .if1 .left) (sized o) (h .put-head .ensures)))
+    (rw (e, ← g) (c .code .ensures), rw (e, ← g) (p .put-changing .ensures ∙ packed-parts (now (s .args .machine)) _ _ (b .if1 .left) (rw (o .opening .ensures) (opened-sized _)) (h .put-head .ensures)))
 
 pub desk-open-spec : {M : Type 1} → statement M
 desk-open-spec =

@@ -19,8 +19,8 @@
 //! The column `self` is what the ratio would be were both sides the same: in each
 //! line the second side is timed twice, as if it were two, and the one time divided
 //! by the other. A ratio no further from 1 than they are says nothing. Before a
-//! line is timed both sides make it once; where their replies differ the bench ends
-//! with an error.
+//! line is timed both sides make it once; where their replies differ, or are refusal 8,
+//! which comes before all work, the bench ends with an error.
 //!
 //! `--once` runs one line of one side (`library` or `independent`) a fixed number
 //! of times, for instruction counts under valgrind; `--times 0` counts what
@@ -32,8 +32,9 @@
 //! Buffers are not cleared between repetitions.
 
 use counts::Counts;
+use independent::desk::Reply;
 use independent::desks::Checked;
-use independent::rows::{Independent, RowDesk, Shown};
+use independent::rows::{self, Independent, RowDesk, Shown};
 use mornings::MORNINGS;
 use opening::{openings, Opening};
 use std::process::ExitCode;
@@ -249,6 +250,7 @@ fn growth_table(part: &str) -> Checked<Table> {
 fn against_independent(name: &str, go: Go) -> Checked<Comparison> {
     let library = independent::library();
     let ours = go(&Independent);
+    expect_fit(name, ours)?;
     match library.map(|library| go(library)) {
         Some(theirs) if theirs != ours => {
             let [theirs, ours] = [theirs, ours].map(Shown);
@@ -261,6 +263,14 @@ fn against_independent(name: &str, go: Go) -> Checked<Comparison> {
             };
             Ok(Comparison::new(library.map(side), side(&Independent)))
         }
+    }
+}
+
+/// An error where a line's machine doesn't fit, so that it would time no more than that.
+fn expect_fit(name: &str, reply: u64) -> Checked<()> {
+    match reply == rows::code(Reply::Refused(8)) {
+        true => Err(format!("{name}: refused with 8")),
+        false => Ok(()),
     }
 }
 

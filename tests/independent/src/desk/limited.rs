@@ -2,7 +2,7 @@
 //! test compares a candidate only with states that are out or have a smaller key".
 //! And, to be held against it, the comparisons of Take.
 
-use super::{Graph, Live, Machine, Reply, FOUND, MAX_STATES, NONE, NO_PATH, OPEN, OUT};
+use super::{Graph, Live, Machine, Reply, FOUND, NONE, NO_PATH, OPEN, OUT};
 use std::iter::successors;
 
 /// A limited Take's reply, and how many comparisons it made.
@@ -26,7 +26,12 @@ impl Machine {
             return refused(11);
         }
         let live = Live::of(self);
-        let trial = Board::of(self, graph, live.states()).try_candidates();
+        let board = Board {
+            machine: self,
+            graph,
+            live: live.states(),
+        };
+        let trial = board.try_candidates();
         if trial.safe.is_none() && live.count > 0 && !live.any_out {
             return refused(12);
         }
@@ -86,7 +91,7 @@ impl Machine {
         let mut best_key = u64::MAX;
         let open = (0..self.head.n).filter(|&s| self.marks[s] == OPEN);
         for state in open.filter(|&s| s != goal) {
-            let key = self.key(graph, state);
+            let key = self.keys[state];
             if key < best_key && is_safe(state) {
                 best_key = key;
             }
@@ -120,28 +125,14 @@ struct Trial {
     comparisons: usize,
 }
 
-/// A machine's open and out states by rising number, and their keys.
+/// A machine and its open and out states by rising number.
 struct Board<'a> {
     machine: &'a Machine,
     graph: Graph<'a>,
     live: &'a [u16],
-    keys: [u64; MAX_STATES],
 }
 
-impl<'a> Board<'a> {
-    fn of(machine: &'a Machine, graph: Graph<'a>, live: &'a [u16]) -> Board<'a> {
-        let mut board = Board {
-            machine,
-            graph,
-            live,
-            keys: [0; MAX_STATES],
-        };
-        for &state in live {
-            board.keys[usize::from(state)] = machine.key(graph, state.into());
-        }
-        board
-    }
-
+impl Board<'_> {
     fn is_open(&self, state: usize) -> bool {
         self.machine.marks[state] == OPEN
     }
@@ -174,7 +165,7 @@ impl<'a> Board<'a> {
 
     /// The open state that follows another by key and number, or the first of all.
     fn next_after(&self, last: Option<usize>) -> Option<usize> {
-        let rank = |state: usize| (self.keys[state], state);
+        let rank = |state: usize| (self.machine.keys[state], state);
         let open = self.live.iter().map(|&s| usize::from(s));
         let later =
             open.filter(|&s| self.is_open(s) && last.map_or(true, |last| rank(last) < rank(s)));
@@ -184,10 +175,11 @@ impl<'a> Board<'a> {
     /// The state at which a candidate's test stops, and how many states it was compared
     /// with: "by rising number until a dependence".
     fn test(&self, candidate: usize) -> (Option<u16>, usize) {
+        let keys = &self.machine.keys;
         let mut comparisons = 0;
         for &t in self.live {
             let state = usize::from(t);
-            if self.is_open(state) && self.keys[state] >= self.keys[candidate] {
+            if self.is_open(state) && keys[state] >= keys[candidate] {
                 continue;
             }
             comparisons += 1;

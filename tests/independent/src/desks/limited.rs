@@ -2,7 +2,7 @@
 
 use super::{Checked, Desks};
 use crate::demand::limited::{see_limited, LimitedTake};
-use crate::demand::see_limited_wait;
+use crate::demand::{keys, see_limited_wait};
 use crate::desk::{Graph, Reply};
 use crate::rows::{self, RowDesk};
 
@@ -34,6 +34,7 @@ impl Desks<'_> {
             reached,
         };
         see_limited(self.checked(), limited, &take)?;
+        keys::see_calls(take.row, graph.estimates, &[limited.reply])?;
         if let Reply::Wait(state) = limited.reply {
             see_limited_wait(row, graph, state)?;
         }

@@ -109,6 +109,7 @@ pub const RUNS: &[Run] = &[
             let (mut row, _) = run(desk, &task, "T0 B0 T0");
             row[MARKS + 4] = 1;
             row[LABELS + 4] = 200;
+            rows::set_key(&mut row, 4, 20_000);
             let code = desk.bring(&mut row, task.graph(), 0);
             let left = (row[MARKS + 1], row[LABELS + 1], row[LABELS + 4]);
             match code == rows::code(Reply::Brought(0)) && left == (0, 0, 200) {
@@ -126,6 +127,7 @@ pub const RUNS: &[Run] = &[
             expect_path(desk, &row, &task, Reply::Refused(14))?;
             // 3 has label 5, and 5 + 4,294,967,295 is 4 in 32 bits.
             row[LABELS + 4] = 4;
+            rows::set_key(&mut row, 4, 400);
             expect_path(desk, &row, &task, Reply::Refused(14))
         },
     },

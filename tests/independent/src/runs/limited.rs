@@ -108,6 +108,8 @@ pub const RUNS: &[Run] = &[
             let mut row = opened(desk);
             row[MARKS..][..4].copy_from_slice(&[3, 1, 1, 3]);
             row[LABELS..][1..3].copy_from_slice(&[10, 5]);
+            rows::set_key(&mut row, 1, 1000);
+            rows::set_key(&mut row, 2, 1400);
             // 1 depends on 2, but 2 has the greater key: 1 is compared with none.
             expect_limited(desk, &row, task.graph(), 0, (Reply::Took(1), 0))?;
             // 3, with label 0, is out: 1 stops there, and 2 after 1, on which it doesn't
@@ -118,10 +120,12 @@ pub const RUNS: &[Run] = &[
             expect_limited(desk, &row, task.graph(), 2, (Reply::Cut(2), 2))?;
             // With equal keys, 1 and 2 aren't compared with each other: 2 stops at 3 too.
             row[LABELS + 1] = 14;
+            rows::set_key(&mut row, 1, 1400);
             expect_limited(desk, &row, task.graph(), 9, (Reply::Wait(3), 2))?;
             // The goal, with label 20, is tried first and stops at 1.
             row[MARKS + 4] = u32::from(OPEN);
             row[LABELS + 4] = 20;
+            rows::set_key(&mut row, 4, 2000);
             expect_limited(desk, &row, task.graph(), 9, (Reply::Wait(3), 3))
         },
     },

@@ -20,7 +20,7 @@ fn has_blocked(task: &Task) -> bool {
 
 // ---- The desk, held against the words ----
 
-/// Bring as document 01 and order 4 word it.
+/// Bring as document 01 and orders 4 and 8 word it.
 fn literal_bring(machine: &Machine, graph: Graph, worker: usize) -> (Machine, Reply) {
     let mut after = machine.clone();
     let state = usize::from(machine.held[worker]);
@@ -35,6 +35,8 @@ fn literal_bring(machine: &Machine, graph: Graph, worker: usize) -> (Machine, Re
             after.marks[to] = OPEN;
             after.labels[to] = sum as u32;
             after.vias[to] = number as u16;
+            let h = i128::from(graph.estimates[to * machine.head.n + machine.head.goal]);
+            after.keys[to] = (100 * sum + machine.head.pull as i128 * h) as u64;
             count += 1;
         }
     }
@@ -195,7 +197,7 @@ fn comparison_sees_other_costs() {
     ];
     for (line, &cost) in costs.iter().enumerate() {
         let wrong = Wrong { cost, ..RIGHT };
-        let (differences, _) = count_differences(Some(&wrong), 400);
+        let (differences, _) = count_differences(Some(&wrong), 1500);
         assert!(differences > 0, "line {line} is not seen");
     }
 }

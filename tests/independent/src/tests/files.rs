@@ -238,12 +238,3 @@ fn sample_tasks_are_written_back() {
     let (still_written, _, wrong) = samples(Some(&longer));
     assert_eq!((still_written, wrong.len()), (0, written));
 }
-
-/// Something that was not met is said, with cases enough for it.
-#[test]
-fn unmet_clauses_are_said() {
-    let missing = unmet(&Tally::default(), 10_000);
-    assert_eq!(missing.len(), CLAUSES.len() + 2 + 3 + 4);
-    assert_eq!(missing[0], "file_write-24 n 0 was never met");
-    assert!(unmet(&Tally::default(), 9_999).is_empty());
-}

@@ -10,7 +10,7 @@ use crate::rows::{limited, limited_code};
 // ---- The desk, held against the words ----
 
 /// A limited Take without a limit as order 7 words it, without any shortcut.
-fn literal_limited(machine: &Machine, graph: Graph) -> Limited {
+pub fn literal_limited(machine: &Machine, graph: Graph) -> Limited {
     let n = machine.head.n;
     let h = |a: usize, b: usize| i128::from(graph.estimates[a * n + b]);
     let label = |s: usize| i128::from(machine.labels[s]);
@@ -125,8 +125,7 @@ fn accepted_tables_make_no_difference() {
 #[test]
 fn comparisons_are_counted() {
     let counts = |change: Change| {
-        let (task, mut machine) = waiting();
-        change(&mut machine);
+        let (task, mut machine) = waiting(change);
         let take = machine.take_comparisons(task.graph());
         (take, machine.take_limited(task.graph(), 0, usize::MAX))
     };
@@ -307,8 +306,7 @@ fn demand_3_includes_limited_takes() {
 #[test]
 fn wrong_limited_waits_are_caught() {
     let fault = |named: u16, change: Change| {
-        let (task, mut machine) = waiting();
-        change(&mut machine);
+        let (task, machine) = waiting(change);
         let mut row = vec![0; ROW];
         rows::encode(&machine, &mut row);
         see_limited_wait(&row, task.graph(), named).err()

@@ -128,12 +128,12 @@ fn largest(row: &[u32]) -> u32 {
 /// of row a.
 #[test]
 fn comparison_sees_sweeps_that_pass_over_too_much() {
-    let changes: &[fn(&Task, u64) -> u64] = &[
-        |task, reply| pass(task, reply, |_, _, _| true),
-        |task, reply| pass(task, reply, |from_a, ab, _| ab + 1 >= largest(from_a)),
-        |task, reply| pass(task, reply, |from_a, ab, _| ab >= largest(from_a) / 2),
-        |task, reply| pass(task, reply, |_, ab, from_b| ab >= largest(from_b)),
-        |task, reply| pass(task, reply, |from_a, ab, _| ab >= from_a[0]),
+    let changes: &[OpenChange] = &[
+        |task, _, reply| pass(task, reply, |_, _, _| true),
+        |task, _, reply| pass(task, reply, |from_a, ab, _| ab + 1 >= largest(from_a)),
+        |task, _, reply| pass(task, reply, |from_a, ab, _| ab >= largest(from_a) / 2),
+        |task, _, reply| pass(task, reply, |_, ab, from_b| ab >= largest(from_b)),
+        |task, _, reply| pass(task, reply, |from_a, ab, _| ab >= from_a[0]),
     ];
     for (line, &open) in changes.iter().enumerate() {
         let wrong = Wrong { open, ..RIGHT };

@@ -15,10 +15,10 @@ use Rattle.desk.proofs.Machine.bring_checked.Statement.{statement}
 use Rattle.desk.proofs.Machine.bring_checked.Tie as tie
 
 abbrev Inv-loop : tie.InvT-loop
-Inv-loop sound passages estimates worker self₀ number s label count many₀ i₀ self many i = Run self₀ self passages s many i
+Inv-loop sound passages estimates worker self₀ number s label n goal pull count many₀ i₀ self many i = Run self₀ self passages estimates s many i
 
 abbrev μ-loop : tie.MeasureT-loop
-μ-loop sound passages estimates worker self₀ number s label count many₀ i₀ self many i = count - i
+μ-loop sound passages estimates worker self₀ number s label n goal pull count many₀ i₀ self many i = count - i
 
 -- where the function starts, seen from past the first test
 abbrev start : tie.Else1 Inv-loop μ-loop → tie.Start Inv-loop μ-loop
@@ -40,15 +40,22 @@ module _ (c : tie.After-wide Inv-loop μ-loop) where
   abbrev past : tie.Else1 Inv-loop μ-loop
   past = c .before .before .before .before
 
-  carries : Carried (start past .args .t1) (now (start past .args .passages)) (c .wide .result)
-  carries = subst⁻¹ (λ (s : ℕ). Carried (start past .args .t1) (now (start past .args .passages)) s) (c .wide .ensures) (carried _ _ _ _ _ (facts past) (let-in past .worker-in) (c .before .before .if2 .left))
+  carries : Carried (start past .args .t1) (now (start past .args .passages)) (now (start past .args .estimates)) (c .wide .result)
+  carries = subst⁻¹ (λ (s : ℕ). Carried (start past .args .t1) (now (start past .args .passages)) (now (start past .args .estimates)) s) (c .wide .ensures) (carried _ _ _ _ _ (facts past) (let-in past .worker-in) (c .before .before .if2 .left))
 
 -- the far end of a passage has a place in the rows
-far-in : (c : tie.After-far Inv-loop μ-loop) → c .far .result < 256
-far-in c = omega (arith, c .far .ensures, carries (c .before .before .before .before .before .before .before .before) .fars (c .before .before .before .before .before .before .loop .i) (c .before .before .before .before .before .loop-test .taken))
+module _ (c : tie.After-far Inv-loop μ-loop) where
+  can : Carried (start (past (c .before .before .before .before .before .before .before .before)) .args .t1) (now (start (past (c .before .before .before .before .before .before .before .before)) .args .passages)) (now (start (past (c .before .before .before .before .before .before .before .before)) .args .estimates)) (c .before .before .before .before .before .before .before .before .wide .result)
+  can = carries (c .before .before .before .before .before .before .before .before)
+
+  far-state : c .far .result < start (past (c .before .before .before .before .before .before .before .before)) .args .t1 .n
+  far-state = omega (arith, c .far .ensures, can .fars (c .before .before .before .before .before .before .loop .i) (c .before .before .before .before .before .loop-test .taken))
+
+  far-in : c .far .result < 256
+  far-in = omega (arith, far-state, can .table .states)
 
 call-fault-requires : tie.Need-call-fault-requires Inv-loop μ-loop
-call-fault-requires c κs = sound-sizes _ _ (c .before .before .before .before .before .before .pre)
+call-fault-requires c κs = sound-sizes _ _ _ (c .before .before .before .before .before .before .pre)
 
 refused-requires : tie.Need-refused-requires Inv-loop μ-loop
 refused-requires c κs = search needs
@@ -86,7 +93,7 @@ element-copy-out-label : tie.Need-element-copy-out-label Inv-loop μ-loop
 element-copy-out-label c = carries c .state
 
 loop-holds : tie.Need-loop-holds Inv-loop μ-loop
-loop-holds c = run-zero _ _ _
+loop-holds c = run-zero _ _ _ _
 
 near-requires : tie.Need-near-requires Inv-loop μ-loop
 near-requires c κs = search needs
@@ -136,8 +143,20 @@ mul-self-2 c = omega (arith, far-in (c .before .before .before .before .before))
 element-write-self-3 : tie.Need-element-write-self-3 Inv-loop μ-loop
 element-write-self-3 c = far-in (c .before .before .before .before .before)
 
+estimate-requires : tie.Need-estimate-requires Inv-loop μ-loop
+estimate-requires c κs = let f = c .before .before .before .before .before in (can f .table, (far-state f, can f .goal))
+
+key-requires : tie.Need-key-requires Inv-loop μ-loop
+key-requires c κs = search needs
+
+mul-self-3 : tie.Need-mul-self-3 Inv-loop μ-loop
+mul-self-3 c = omega (arith, far-in (c .before .before .before .before .before .before .before))
+
+element-write-self-4 : tie.Need-element-write-self-4 Inv-loop μ-loop
+element-write-self-4 c = far-in (c .before .before .before .before .before .before .before)
+
 add-many : tie.Need-add-many Inv-loop μ-loop
-add-many c = omega (arith, carries (c .before .before .before .before .before .before .before .before .before .before .before .before .before) .few)
+add-many c = omega (arith, can (c .before .before .before .before .before .before .before) .few)
 
 add-i : tie.Need-add-i Inv-loop μ-loop
 add-i c = search needs
@@ -152,29 +171,29 @@ loop-again c =
     let f = c .before .near .ensures in
     let plus : ℕ → ℕ = λ k. labelOf (start (past (c .before .before .before .before .before)) .args .t1) (c .before .before .before .before .before .wide .result) + k in
     ⊎-elim
-    (λ w. rw (w .9, w .10) (run-set _ _ _ _ _ (l .i) (l .inv) t (sym f ∙ w .0 .taken) (sym (w .1 .ensures) ∙ w .2 .taken) _ _ (w .3 .ensures) (ap plus (w .4 .ensures)) (sym (w .7 .ensures) ∙ w .8 .taken)))
+    (λ w. rw (w .11, w .12) (run-set _ _ _ _ _ _ (l .i) (l .inv) t (sym f ∙ w .0 .taken) (sym (w .1 .ensures) ∙ w .2 .taken) _ _ (w .3 .ensures) (ap plus (w .4 .ensures)) _ (rw (w .9 .ensures) at (w .10 .ensures)) (sym (w .7 .ensures) ∙ w .8 .taken)))
     (λ v. ⊎-elim
-    (λ w. rw (w .9, w .10) (run-kept _ _ _ _ _ (l .i) (l .inv) t (sym f ∙ w .0 .taken) (sym (w .1 .ensures) ∙ w .2 .taken) _ _ (w .3 .ensures) (ap plus (w .4 .ensures)) (sym (w .7 .ensures) ∙ w .8 .left)))
+    (λ w. rw (w .9, w .10) (run-kept _ _ _ _ _ _ (l .i) (l .inv) t (sym f ∙ w .0 .taken) (sym (w .1 .ensures) ∙ w .2 .taken) _ _ (w .3 .ensures) (ap plus (w .4 .ensures)) (sym (w .7 .ensures) ∙ w .8 .left)))
     (λ u. ⊎-elim
-    (λ w. rw (w .3, w .4) (run-blocked _ _ _ _ _ (l .i) (l .inv) t (sym f ∙ w .0 .taken) (sym (w .1 .ensures) ∙ w .2 .left)))
-    (λ w. rw (w .1, w .2) (run-skip _ _ _ _ _ (l .i) (l .inv) t (λ q. w .0 .left (f ∙ q))))
+    (λ w. rw (w .3, w .4) (run-blocked _ _ _ _ _ _ (l .i) (l .inv) t (sym f ∙ w .0 .taken) (sym (w .1 .ensures) ∙ w .2 .left)))
+    (λ w. rw (w .1, w .2) (run-skip _ _ _ _ _ _ (l .i) (l .inv) t (λ q. w .0 .left (f ∙ q))))
     u) v) (c .if3 .came)
 
-element-write-self-4 : tie.Need-element-write-self-4 Inv-loop μ-loop
-element-write-self-4 c = carries (c .before .before .before) .state
-
-mul-self-3 : tie.Need-mul-self-3 Inv-loop μ-loop
-mul-self-3 c = omega (arith, worker-in (past (c .before .before .before)))
-
 element-write-self-5 : tie.Need-element-write-self-5 Inv-loop μ-loop
-element-write-self-5 c = worker-in (past (c .before .before .before))
+element-write-self-5 c = carries (c .before .before .before) .state
+
+mul-self-4 : tie.Need-mul-self-4 Inv-loop μ-loop
+mul-self-4 c = omega (arith, worker-in (past (c .before .before .before)))
+
+element-write-self-6 : tie.Need-element-write-self-6 Inv-loop μ-loop
+element-write-self-6 c = worker-in (past (c .before .before .before))
 
 returns-3 : tie.Need-returns-3 Inv-loop μ-loop
 unfolding bringOf
 returns-3 c =
     let w = c .before .before .before in
     let l = c .before .loop in
-    run-brought _ _ _ _ _ _ (l .i) (l .inv) (c .loop-test .left) (w .wide .ensures) ∙ goes-on _ _ _ _ _ _ _ (let-in (past w)) (ap not (ne-eqb _ 65535 (w .before .before .if2 .left)))
+    run-brought _ _ _ _ _ _ _ (l .i) (l .inv) (c .loop-test .left) (w .wide .ensures) ∙ goes-on _ _ _ _ _ _ _ (let-in (past w)) (ap not (ne-eqb _ 65535 (w .before .before .if2 .left)))
 
 pub bring-checked-spec : {M : Type 1} → statement M
 bring-checked-spec =
@@ -210,11 +229,15 @@ bring-checked-spec =
     cast-self
     mul-self-2
     element-write-self-3
+    estimate-requires
+    key-requires
+    mul-self-3
+    element-write-self-4
     add-many
     add-i
     loop-less
     loop-again
-    element-write-self-4
-    mul-self-3
     element-write-self-5
+    mul-self-4
+    element-write-self-6
     returns-3)

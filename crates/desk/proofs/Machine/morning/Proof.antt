@@ -20,11 +20,11 @@ returns c =
     let e = morning-refused _ _ _ _ _ _ (c .before .before .morning-fault .ensures) (c .before .if1 .taken) in
     (c .refused .ensures ∙ sym (ap (λ (o : Morning). o .given) e), sym (ap (λ (o : Morning). o .row) e))
 
-task-fits-requires : tie.Need-task-fits-requires
-task-fits-requires c κs = search needs
+sound-requires : tie.Need-sound-requires
+sound-requires c κs = search needs
 
 serve-requires : tie.Need-serve-requires
-serve-requires c κs = (c .before .task-fits .ensures, morning-room _ _ (sym (c .before .before .before .morning-fault .ensures) ∙ c .before .before .if1 .left))
+serve-requires c κs = (c .before .sound .ensures, morning-room _ _ (sym (c .before .before .before .before .before .before .before .morning-fault .ensures) ∙ c .before .before .before .before .before .before .if1 .left))
 
 same-length : tie.Need-same-length
 same-length c = search needs
@@ -32,7 +32,7 @@ same-length c = search needs
 returns-2 : tie.Need-returns-2
 returns-2 c =
     let s = c .before .before in
-    let e = morning-served _ _ _ _ _ _ (s .before .before .before .before .morning-fault .ensures) (s .before .before .before .if1 .left) in
+    let e = morning-served _ _ _ _ _ _ (s .before .before .before .before .before .before .before .before .morning-fault .ensures) (s .before .before .before .before .before .before .before .if1 .left) in
     (ap (λ (x : Machine). answer x Done) (s .serve .ensures .0) ∙ sym (ap (λ (o : Morning). o .given) e), s .serve .ensures .1 ∙ sym (ap (λ (o : Morning). o .row) e))
 
 pub morning-spec : {M : Type 1} → statement M
@@ -42,7 +42,7 @@ morning-spec =
     morning-fault-requires
     refused-requires
     returns
-    task-fits-requires
+    sound-requires
     serve-requires
     same-length
     returns-2)

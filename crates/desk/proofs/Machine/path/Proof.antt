@@ -2,10 +2,10 @@
 use mathlib.Core.Path.{_≡_, _∙_, sym, ap}
 use mathlib.Core.Bool.{true}
 use mathlib.Core.List.{List}
-use Prim.Native.Nat.{ℕ}
+use Prim.Native.Nat.{ℕ, _*_, _<_}
 use native.Mathlib.Omega.{arith}
 use denote.Ref.{now}
-use lib.ListN.{length-take, length-drop}
+use lib.ListN.{length, length-take, length-drop}
 use borrow.Author.Tests.{not-true, not-false}
 use Rattle.desk.specs.declared.Answer.{Answer}
 use Rattle.trail.specs.Laws.{path-within}
@@ -23,11 +23,11 @@ reads-as e = (sym (ap (λ (s : PathReading). s .given) e), sym (ap (λ (s : Path
 
 -- where the function starts
 abbrev begun : tie.After-fits2 → tie.Start
-begun c = c .before .before .before .before .before .before .before .before .before
+begun c = c .before .before .before .before .before .before .before .before .before .before .before .before .before
 
 -- what the call of `fits` found
 found : (c : tie.After-fits2) → c .fits2 .result ≡ fits (begun c .args .t1) (handsOf (begun c .args .t1)) (now (begun c .args .passages)) (now (begun c .args .estimates))
-found c = fits-by _ _ _ _ _ (c .before .before .before .before .before .task-fits .ensures) _ (c .fits2 .ensures)
+found c = fits-by _ _ _ _ _ (c .before .before .before .before .before .sound .ensures) _ (c .fits2 .ensures)
 
 -- past the first test the machine fits
 module _ (c : tie.Else1) where
@@ -40,11 +40,15 @@ module _ (c : tie.Else1) where
   facts : Fitting (start .args .t1) (handsOf (start .args .t1)) (now (start .args .passages)) (now (start .args .estimates))
   facts = fitting _ _ _ _ fit
 
-task-fits-requires : tie.Need-task-fits-requires
-task-fits-requires c κs = search needs
+-- the buffer's length leaves room for doubling a place in it
+room : (c : tie.After-slice-known) → length (now (c .before .before .before .args .buffer)) * 2 < 18446744073709551616
+room c = search needs
+
+sound-requires : tie.Need-sound-requires
+sound-requires c κs = search needs
 
 fits-requires : tie.Need-fits-requires
-fits-requires c κs = sound-sizes _ _ (c .before .before .before .before .task-fits .ensures)
+fits-requires c κs = sound-sizes _ _ _ (c .before .before .before .before .sound .ensures)
 
 refused-requires : tie.Need-refused-requires
 refused-requires c κs = search needs
@@ -101,7 +105,7 @@ returns-5 c =
     (c .refused5 .ensures ∙ e .0, e .1)
 
 mul-write-back : tie.Need-mul-write-back
-mul-write-back c = search needs
+mul-write-back c = omega (arith, room (c .before .before .before .before .before .before .before .before .before .before .before .before .before .before .before .before .before .before .before))
 
 sub-write-back : tie.Need-sub-write-back
 sub-write-back c = search needs
@@ -141,7 +145,7 @@ pub path-spec : {M : Type 1} → statement M
 path-spec =
     tie.close
     (tie.spec
-    task-fits-requires
+    sound-requires
     fits-requires
     refused-requires
     returns

@@ -8,6 +8,7 @@ use Rattle.checks.specs.Laws.{whole}
 use Rattle.desk.specs.declared.Answer.{Answer}
 use Rattle.desk.specs.Machine.{handsOf}
 use Rattle.desk.specs.Take.{act, takeStep, takeOf}
+use Rattle.desk.specs.KeyLaws.{keyed}
 use Rattle.desk.specs.Laws.{Fitting, fitting, Admitted, sound-sizes, call-admitted, turned-away, not-ready, goes-on, Placed, placed}
 use borrow.Author.Needs.{needs}
 use Rattle.desk.proofs.Machine.take_checked.Statement.{statement}
@@ -31,7 +32,7 @@ module _ (c : tie.Else1) where
 -- once it is decided, the answer is what `act` makes of the decision
 module _ (c : tie.After-decide) where
   abbrev past : tie.Else1
-  past = c .before .before .before .before .before .before
+  past = c .before .before .before .before .before .before .before
 
   in-rows : Placed (c .decide .result)
   in-rows = subst⁻¹ Placed (c .decide .ensures) (placed _ _ _ (facts past .task .states))
@@ -39,14 +40,14 @@ module _ (c : tie.After-decide) where
   acts : {r : Answer} → r ≡ act (start past .args .t1) (handsOf (start past .args .t1)) (start past .args .worker) (c .decide .result)
       → r ≡ takeOf (start past .args .t1) (now (start past .args .passages)) (now (start past .args .estimates)) (start past .args .worker)
   unfolding takeOf takeStep
-  acts e = e ∙ ap (act _ _ _) (c .decide .ensures) ∙ goes-on _ _ _ _ _ _ _ (let-in past) (eq-eqb _ 65535 (c .before .before .before .before .if2 .left))
+  acts e = e ∙ ap (act _ _ _) (c .decide .ensures) ∙ goes-on _ _ _ _ _ _ _ (let-in past) (eq-eqb _ 65535 (c .before .before .before .before .before .if2 .left))
 
 -- the state that is dealt has a place in the rows
 deal-in : (c : tie.After-known-told2) → c .before .decision2 .given .0 .0 < 256
 deal-in c = subst Placed (c .before .decision2 .given .1) (in-rows (c .before .before .before))
 
 call-fault-requires : tie.Need-call-fault-requires
-call-fault-requires c κs = sound-sizes _ _ (c .before .before .before .before .before .before .pre)
+call-fault-requires c κs = sound-sizes _ _ _ (c .before .before .before .before .before .before .pre)
 
 refused-requires : tie.Need-refused-requires
 refused-requires c κs = search needs
@@ -69,7 +70,7 @@ unfolding takeOf
 returns-2 c = c .refused2 .ensures ∙ not-ready _ _ _ _ _ _ _ (let-in (c .before .before .before)) (ne-eqb _ 65535 (c .before .if2 .taken))
 
 decide-requires : tie.Need-decide-requires
-decide-requires c κs = let f = facts (c .before .before .before .before .before) .task in (whole _ f, f .goal-in)
+decide-requires c κs = let f = facts (c .before .before .before .before .before .before) in (keyed _ _ _ _ f, whole _ (f .task), f .task .goal-in)
 
 enum-known-decision : tie.Need-enum-known-decision
 enum-known-decision c = search needs
@@ -98,8 +99,8 @@ enum-told-2 c = search needs
 enum-known-decision-3 : tie.Need-enum-known-decision-3
 enum-known-decision-3 c = search needs
 
-cast-t35 : tie.Need-cast-t35
-cast-t35 c = omega (arith, subst Placed (c .before .decision3 .given .1) (in-rows (c .before .before .before)))
+cast-t36 : tie.Need-cast-t36
+cast-t36 c = omega (arith, subst Placed (c .before .decision3 .given .1) (in-rows (c .before .before .before)))
 
 returns-3 : tie.Need-returns-3
 returns-3 c = acts (c .before .before .before) (ap (act _ _ _) (sym (c .before .decision .given .1)))
@@ -137,7 +138,7 @@ take-checked-spec =
     element-write-self-2
     enum-told-2
     enum-known-decision-3
-    cast-t35
+    cast-t36
     returns-3
     returns-4
     returns-5

@@ -12,6 +12,7 @@ use Rattle.checks.specs.Laws.{whole}
 use Rattle.desk.specs.declared.Answer.{Answer}
 use Rattle.desk.specs.Machine.{handsOf, heldBy}
 use Rattle.desk.specs.Limited.{limitedAnswer}
+use Rattle.desk.specs.KeyLaws.{keyed}
 use Rattle.desk.specs.Laws.{Fitting, fitting, Admitted, sound-sizes, call-admitted, turned-away, not-ready}
 use Rattle.desk.specs.LimitedLaws.{counted, limited-refused, limited-cut, limited-step, limited-placed, cut-small}
 use Rattle.desk.proofs.Machine.take_limited.Statement.{statement}
@@ -19,12 +20,12 @@ use Rattle.desk.proofs.Machine.take_limited.Tie as tie
 
 -- where the function starts, seen from past the first test
 abbrev start : tie.Else1 → tie.Start
-start c = c .before .before .before .before .before .before .before .before .before
+start c = c .before .before .before .before .before .before .before .before .before .before .before .before .before
 
 -- past the first test none of 8, 9 and 10 applies, and the machine fits
 module _ (c : tie.Else1) where
   let-in : Admitted (start c .args .t1) (handsOf (start c .args .t1)) (now (start c .args .passages)) (now (start c .args .estimates)) (start c .args .worker)
-  let-in = call-admitted _ _ _ _ _ _ _ (c .before .before .before .before .before .before .task-fits .ensures) (c .before .call-fault .ensures) (c .if1 .left)
+  let-in = call-admitted _ _ _ _ _ _ _ (c .before .before .before .before .before .before .sound .ensures) (c .before .call-fault .ensures) (c .if1 .left)
 
   facts : Fitting (start c .args .t1) (handsOf (start c .args .t1)) (now (start c .args .passages)) (now (start c .args .estimates))
   facts = fitting _ _ _ _ (let-in .fit)
@@ -35,16 +36,16 @@ module _ (c : tie.Else1) where
 -- past the second the worker holds nothing
 module _ (c : tie.After-decide-limited) where
   abbrev past : tie.Else1
-  past = c .before .before .before .before .before .before
+  past = c .before .before .before .before .before .before .before
 
   hands-free : eqb (heldBy (handsOf (start past .args .t1)) (start past .args .worker)) none ≡ true
-  hands-free = eq-eqb _ 65535 (c .before .before .before .before .if2 .left)
+  hands-free = eq-eqb _ 65535 (c .before .before .before .before .before .if2 .left)
 
-task-fits-requires : tie.Need-task-fits-requires
-task-fits-requires c κs = search needs
+sound-requires : tie.Need-sound-requires
+sound-requires c κs = search needs
 
 call-fault-requires : tie.Need-call-fault-requires
-call-fault-requires c κs = sound-sizes _ _ (c .before .before .before .before .task-fits .ensures)
+call-fault-requires c κs = sound-sizes _ _ _ (c .before .before .before .before .sound .ensures)
 
 refused-requires : tie.Need-refused-requires
 refused-requires c κs = search needs
@@ -54,7 +55,7 @@ unfolding limitedAnswer
 returns c =
     c .refused .ensures
     ∙ limited-refused _ _ _ _ _ _
-    (turned-away _ _ _ _ _ _ _ (c .before .before .before .before .before .before .before .task-fits .ensures) (c .before .before .call-fault .ensures) _ _ (c .before .if1 .taken))
+    (turned-away _ _ _ _ _ _ _ (c .before .before .before .before .before .before .before .sound .ensures) (c .before .before .call-fault .ensures) _ _ (c .before .if1 .taken))
 
 mul-if2 : tie.Need-mul-if2
 mul-if2 c = omega (arith, worker-in c)
@@ -70,13 +71,13 @@ unfolding limitedAnswer
 returns-2 c = c .refused2 .ensures ∙ limited-refused _ _ _ _ _ _ (not-ready _ _ _ _ _ _ _ (let-in (c .before .before .before)) (ne-eqb _ 65535 (c .before .if2 .taken)))
 
 decide-limited-requires : tie.Need-decide-limited-requires
-decide-limited-requires c κs = let f = facts (c .before .before .before .before .before) .task in (whole _ f, f .goal-in)
+decide-limited-requires c κs = let f = facts (c .before .before .before .before .before .before) in (keyed _ _ _ _ f, whole _ (f .task), f .task .goal-in)
 
 enum-told : tie.Need-enum-told
 enum-told c = search needs
 
-cast-t34 : tie.Need-cast-t34
-cast-t34 c =
+cast-t38 : tie.Need-cast-t38
+cast-t38 c =
     let d = c .before .before in
     let f = facts (past d) .task in
     omega (arith, cut-small _ _ _ (f .states) _ (f .goal-in) (sym (c .enum-told .given .1) ∙ d .decide-limited .ensures))
@@ -105,7 +106,7 @@ pub take-limited-spec : {M : Type 1} → statement M
 take-limited-spec =
     tie.close
     (tie.spec
-    task-fits-requires
+    sound-requires
     call-fault-requires
     refused-requires
     returns
@@ -115,7 +116,7 @@ take-limited-spec =
     returns-2
     decide-limited-requires
     enum-told
-    cast-t34
+    cast-t38
     enum-known-limited
     act-requires
     returns-3

@@ -1,7 +1,8 @@
 -- The loop's invariant is that the machine and the row are those of the first i calls. What was looked at once holds of every machine on the way.
 use Prim.Native.Nat.{_≤_, _-_}
 use lib.ListN.{length}
-use Rattle.desk.specs.CallLaws.{after-sound, Served, served-zero, served-more, served-end}
+use Rattle.desk.specs.KeyLaws.{after-sound}
+use Rattle.desk.specs.CallLaws.{Served, served-zero, served-more, served-end}
 use borrow.Author.Needs.{needs}
 use Rattle.desk.proofs.mornings.serve.Statement.{statement}
 use Rattle.desk.proofs.mornings.serve.Tie as tie
@@ -24,7 +25,7 @@ shared-slice-read-called c = search needs
 called-requires : tie.Need-called-requires Inv-loop μ-loop
 called-requires c κs =
     let l = c .before .before .loop in
-    after-sound _ _ _ _ _ _ (c .before .before .before .before .before .before .before .pre .0) (l .inv .1 .machine)
+    after-sound _ _ _ _ _ _ (record { marks = search needs; labels = search needs; vias = search needs; workers = search needs; keys = search needs }) (c .before .before .before .before .before .before .before .pre .0) (l .inv .1 .machine)
 
 code-requires : tie.Need-code-requires Inv-loop μ-loop
 code-requires c κs = search needs

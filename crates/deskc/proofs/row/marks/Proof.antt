@@ -4,9 +4,9 @@ use Prim.Native.Nat.{_+_, _≤_, _-_}
 use native.Mathlib.Omega.{arith}
 use lib.ListN.{getD}
 use borrow.Author.Needs.{needs}
-use Rattle.laws.specs.Fill.{Filled, filled-zero, filled-front}
+use Rattle.laws.specs.Fill.{Filled, filled-zero, filled-front, filled-whole}
 use Rattle.deskc.specs.Row.{part}
-use Rattle.deskc.specs.Laws.{row-bounds, filled-whole}
+use Rattle.deskc.specs.Laws.{row-bounds}
 use Rattle.deskc.proofs.row.marks.Statement.{statement}
 use Rattle.deskc.proofs.row.marks.Tie as tie
 
@@ -45,7 +45,7 @@ loop-again c = let l = c .before .before .loop in (search needs, filled-front _ 
 
 returns : tie.Need-returns Inv-loop μ-loop
 unfolding part
-returns c = let l = c .before .loop in filled-whole _ 256 _ _ (l .s) (l .inv .1) refl (l .inv .0) (c .loop-test .left)
+returns c = let l = c .before .loop in filled-whole _ 256 _ _ (l .s) (l .inv .1) (l .inv .0) (c .loop-test .left) refl
 
 pub marks-spec : {M : Type 1} → statement M
 marks-spec =

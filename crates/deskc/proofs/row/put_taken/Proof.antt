@@ -22,7 +22,7 @@ others = 0 ∷ 2 ∷ 5 ∷ 6 ∷ 7 ∷ 8 ∷ 9 ∷ []
 dealt-in : (c : tie.After-known-told) → (c .before .reply .given .0 .0 < 256) × (c .before .before .before .before .args .worker < 32)
 dealt-in c = c .before .before .before .before .pre .1 _ (c .before .reply .given .1)
 
-long : (c : tie.Start) → length (now (c .args .row)) ≡ 807
+long : (c : tie.Start) → length (now (c .args .row)) ≡ 1319
 long c = row-bounds _ (c .pre .0) .long
 
 enum-known-reply : tie.Need-enum-known-reply

@@ -4,7 +4,7 @@ use Prim.Native.Nat.{_≤_, _-_}
 use native.Mathlib.Omega.{arith}
 use lib.ListN.{length}
 use borrow.Author.Needs.{needs}
-use Rattle.desk.specs.CallLaws.{after-sound}
+use Rattle.desk.specs.KeyLaws.{after-sound}
 use Rattle.report.specs.SessionLaws.{Played, played-zero, played-more, played-end}
 use Rattle.report.proofs.session.play.Statement.{statement}
 use Rattle.report.proofs.session.play.Tie as tie
@@ -27,7 +27,7 @@ shared-slice-read-tell c = search needs
 tell-requires : tie.Need-tell-requires Inv-loop μ-loop
 tell-requires c κs =
     let l = c .before .before .before .loop in
-    (omega (arith, l .inv .1 .left, l .inv .1 .long, c .before .before .loop-test .taken), sym (after-sound _ _ _ _ _ _ (sym (c .before .before .before .before .before .before .before .before .pre .1)) (l .inv .1 .machine)))
+    (omega (arith, l .inv .1 .left, l .inv .1 .long, c .before .before .loop-test .taken), sym (after-sound _ _ _ _ _ _ (record { marks = search needs; labels = search needs; vias = search needs; workers = search needs; keys = search needs }) (sym (c .before .before .before .before .before .before .before .before .pre .1)) (l .inv .1 .machine)))
 
 add-i : tie.Need-add-i Inv-loop μ-loop
 add-i c = search needs

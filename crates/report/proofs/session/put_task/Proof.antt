@@ -1,6 +1,6 @@
 -- `put_task`: the reply of opening says whether the refusal is put or the events are played, and what it accepted is what `play` asks.
 use mathlib.Core.Path.{sym, _∙_}
-use Rattle.desk.specs.Laws.{opened-sound}
+use Rattle.desk.specs.KeyLaws.{opened-sound}
 use borrow.Author.Needs.{needs}
 use Rattle.report.specs.SessionLaws.{put-refused, put-played}
 use Rattle.report.proofs.session.put_task.Statement.{statement}

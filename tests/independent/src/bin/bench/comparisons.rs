@@ -2,11 +2,13 @@
 //! and the times of both on machines in mid-search.
 
 use crate::counts::{Counted, Counts};
+use crate::expect_fit;
 use crate::growth::{round, sizes};
 use crate::inputs::{map_task, map_text, spread_row};
 use crate::timing::{black_box, on_copy, Go};
 use independent::desk::{Action, Head, Machine, Reply, Task};
 use independent::desks::Checked;
+use independent::maker;
 use independent::map::Map;
 use independent::rows::{self, RowDesk, Shown, LABELS};
 
@@ -137,6 +139,7 @@ impl Timed {
         let mut row = spread_row(&task, self.open);
         if !self.safe {
             row[LABELS + task.head.start] = 0;
+            maker::set_keys(&mut row, &task.estimates);
         }
         row
     }
@@ -146,6 +149,7 @@ impl Timed {
         let (task, row) = (self.task(), self.row());
         let machine = rows::decode(&row).ok_or("no machine")?;
         let take = desk.take(&mut row.clone(), task.graph(), self.k - 1);
+        expect_fit(&self.name(), take)?;
         let code = desk.take_limited(&mut row.clone(), task.graph(), self.k - 1, usize::MAX);
         match rows::limited(code) {
             Some(limited) if rows::code(limited.reply) == take => {

@@ -3,7 +3,7 @@
 
 use independent::desk::{Action, Head, Task, FINISHED, NONE, OPEN, OUT};
 use independent::maker::{self, Rng};
-use independent::rows::{HELD, LABELS, MARKS, ROW};
+use independent::rows::{HELD, KEYS, LABELS, MARKS, ROW, VIAS};
 use independent::taskfile::MAX_FILE;
 
 /// States on a map, estimates their distances by street, passages not below
@@ -47,7 +47,8 @@ pub fn opened_row(task: &Task) -> Vec<u32> {
         *place = number as u32;
     }
     row[MARKS + head.start] = u32::from(OPEN);
-    row[LABELS + 256..].fill(u32::from(NONE));
+    row[VIAS..KEYS].fill(u32::from(NONE));
+    maker::set_keys(&mut row, &task.estimates);
     row
 }
 
@@ -68,6 +69,7 @@ pub fn spread_row(task: &Task, open: usize) -> Vec<u32> {
             row[HELD + order] = state as u32;
         }
     }
+    maker::set_keys(&mut row, &task.estimates);
     row
 }
 

@@ -1,5 +1,6 @@
 //! Mornings, and the same calls made singly.
 
+use crate::expect_fit;
 use crate::growth::Size;
 use crate::inputs::{ended_call, ended_task, opened_row, searching_call, searching_task};
 use crate::timing::{black_box, on_copy, Go};
@@ -92,7 +93,9 @@ impl List {
         let mut replies = vec![0; self.events.len()];
         let graph = self.task.graph();
         match desks.morning(&mut row, graph, &self.numbers(), &mut replies)? {
-            Reply::Done => Ok(()),
+            Reply::Done => replies
+                .iter()
+                .try_for_each(|&code| expect_fit("event", code)),
             reply => Err(format!("{reply:?}")),
         }
     }
