@@ -1,5 +1,7 @@
 // Opening's checks 1 to 7, and the clauses of "Fits" over the rows that they read. No function here knows the machine,
 // so a field more in it changes nothing here.
+#![tactic(auto)]
+
 mod fits;
 mod opening;
 

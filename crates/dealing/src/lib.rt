@@ -1,5 +1,7 @@
 // The safety test, the choice, and which of its five steps a Take comes to. All of it reads the board, each state's
 // mark, label and stored key with the table of estimates, and changes nothing. What a limited Take comes to stands in `limits`.
+#![tactic(auto)]
+
 ghost use Rattle.std.specs.Prelude.{◌≡◌, ◌≤◌, ◌<◌};
 ghost use Rattle.rule.specs.Laws.{WholeTable};
 ghost use Rattle.dealing.specs.Board.{board, first_dependence, first_marked};
@@ -11,7 +13,7 @@ mod limits;
 pub use limits::decide_limited;
 
 // The five steps of Take, in their order, with what each names.
-#[derive(Drop)]
+#[derive(Clone, Copy)]
 pub enum Decision {
     Found(u32),
     NoPath,
@@ -22,7 +24,7 @@ pub enum Decision {
 
 // What going through the open states comes to: the safe one to deal; or none is safe, and the test of the one with the
 // smallest key stopped at a state; or nothing is open.
-#[derive(Drop)]
+#[derive(Clone, Copy)]
 pub enum Choice {
     Safe(usize),
     Stopped(usize),
@@ -30,7 +32,7 @@ pub enum Choice {
 }
 
 // What a limited Take comes to: cut short; or one of the steps, and how many comparisons it took.
-#[derive(Drop)]
+#[derive(Clone, Copy)]
 pub enum Limited {
     Cut,
     Decided(Decision, usize),

@@ -15,7 +15,7 @@ use super::{Decision, Limited, first_marked};
 
 // What the test of a candidate comes to: cut short; or the state at which it stopped, n where it passed, and how many
 // comparisons it made.
-#[derive(Drop)]
+#[derive(Clone, Copy)]
 pub enum Test {
     Cut,
     Ended(usize, usize),
@@ -23,7 +23,7 @@ pub enum Test {
 
 // What trying candidates one after the other comes to: cut short; or the one that passed; or none passed, and the test of
 // the first one stopped at a state, n where there was none. Both with how many comparisons were made so far.
-#[derive(Drop)]
+#[derive(Clone, Copy)]
 pub enum Tries {
     Cut,
     Passed(usize, usize),

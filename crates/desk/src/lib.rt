@@ -2,6 +2,8 @@
 // The calls are Machine::opening, take, take_limited, bring, morning and path. Each is defined for every input.
 // A call looks at the task's conditions 1 to 4 and at the stored keys, which no event makes wrong, and goes on with what it found: a
 // morning looks once for all its events, and `called` serves one event for a caller that looked before.
+#![tactic(auto)]
+
 mod bring;
 mod coding;
 mod fits;
@@ -17,7 +19,7 @@ pub use mornings::{called, morning_fault};
 // n, k, start, goal, W and E of the task; the phase, 0 searching, 1 found, 2 no path; for each state a mark, a label
 // and the number of the passage that the label came by; for each worker the state that it holds; for each state its key,
 // 0 where it is unseen.
-#[derive(Drop)]
+#[derive(Clone, Copy)]
 pub struct Machine {
     pub n: usize,
     pub k: usize,
@@ -33,7 +35,7 @@ pub struct Machine {
     pub key: [u64; 256],
 }
 
-#[derive(Drop)]
+#[derive(Clone, Copy)]
 pub enum Reply {
     Opened,
     Took(u16),
@@ -48,14 +50,14 @@ pub enum Reply {
 }
 
 // The machine that a call hands back, with its reply beside it.
-#[derive(Drop)]
+#[derive(Clone, Copy)]
 pub struct Answer {
     pub machine: Machine,
     pub reply: Reply,
 }
 
 // The answer of a limited Take, with the comparisons that it made.
-#[derive(Drop)]
+#[derive(Clone, Copy)]
 pub struct Counted {
     pub machine: Machine,
     pub reply: Reply,

@@ -1,5 +1,7 @@
 // The desk for C: opening, Take, the limited Take, Bring, whole mornings, path reading, printing, maps and task files, over numbers and lent rows of numbers.
 // include/route_desk.h declares each.
+#![tactic(auto)]
+
 ghost use Rattle.std.specs.Prelude.{◌≡◌};
 ghost use Rattle.checks.specs.Opening.{task};
 ghost use Rattle.gridmap.specs.Reading.{read_map, spot_of, state_at_spot};

@@ -1,4 +1,6 @@
 // `deskrun` from standard input to its exit status: the input is read to its end, reported on once, and the text written.
+#![tactic(auto)]
+
 ghost use Rattle.filter.specs.Run.{Answered, Ran};
 
 mod stream;
@@ -6,14 +8,14 @@ mod stream;
 use libc::{STDIN_FILENO, STDOUT_FILENO};
 
 // What reading to the end came to: how many bytes there were, or that it failed.
-#[derive(Drop)]
+#[derive(Clone, Copy)]
 pub enum Filled {
     Whole(usize),
     Failed,
 }
 
 // What writing came to: all was taken, nobody reads any more, or it failed.
-#[derive(Drop)]
+#[derive(Clone, Copy)]
 pub enum Drained {
     Whole,
     Gone,

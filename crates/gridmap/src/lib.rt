@@ -1,4 +1,6 @@
 // Maps drawn as text, read as the passages and estimates of a task: the plain map text of the public octile grid benchmarks.
+#![tactic(auto)]
+
 ghost use Rattle.std.specs.Prelude.{◌≡◌};
 ghost use Rattle.gridmap.specs.Reading.{read_map, spot_of, state_at_spot};
 
@@ -9,21 +11,21 @@ mod header;
 mod neighbours;
 
 // A map that was read, with how many cells are open and how many passages they have; or the refusal's number.
-#[derive(Drop)]
+#[derive(Clone, Copy)]
 pub enum Survey {
     Drawn(u32, u32),
     Refused(u8),
 }
 
 // A cell by its row and column, both from 0.
-#[derive(Drop)]
+#[derive(Clone, Copy)]
 pub enum Spot {
     At(u16, u16),
     Nowhere,
 }
 
 // What a map's head announces: how high and wide the map is, and the place of its first row's first byte.
-#[derive(Drop)]
+#[derive(Clone, Copy)]
 pub struct Head {
     pub height: usize,
     pub width: usize,

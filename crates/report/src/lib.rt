@@ -1,4 +1,6 @@
 // What `deskrun` prints: one function from a file's bytes to the text, over a reader, a desk and a line maker.
+#![tactic(auto)]
+
 mod decimal;
 mod line;
 mod session;
@@ -9,7 +11,7 @@ pub use session::report;
 pub use status::status_of;
 
 // A session that has come so far: the machine, and the next place of the text.
-#[derive(Drop)]
+#[derive(Clone, Copy)]
 pub struct Told {
     pub machine: Machine,
     pub at: usize,

@@ -1,5 +1,7 @@
 // The rule of a step on single numbers, and the readers of the two lent slices. Every comparison, key and label
 // of the desk goes through here.
+#![tactic(auto)]
+
 ghost use Rattle.std.specs.Prelude.{◌≡◌, ◌+◌, ◌<◌, eqb};
 ghost use Rattle.rule.specs.Task.{passage_count, near, far, cost, is_clear, estimate};
 ghost use Rattle.rule.specs.Laws.{WholeTable};

@@ -1,5 +1,7 @@
 // The task file's reader and writer. A file is scanned whole, record by record, before anything is written; then its passages,
 // estimates and calls go to the three slices that are lent for them. A task and events that a file can carry are written record by record.
+#![tactic(auto)]
+
 mod bytes;
 mod carry;
 mod faults;
@@ -13,7 +15,7 @@ ghost use Rattle.taskfile.specs.Writing.{write_of};
 
 // A scan at its next record: n of the head, 0 before it; how many passages, rows and calls there were; and a status,
 // 0 while it goes on, 1 where all is read, else the number of the fault at this record.
-#[derive(Drop)]
+#[derive(Clone, Copy)]
 pub struct Scan {
     pub at: usize,
     pub n: usize,
@@ -24,7 +26,7 @@ pub struct Scan {
 }
 
 // The head's numbers, and how many passages and calls were read.
-#[derive(Drop)]
+#[derive(Clone, Copy)]
 pub struct Contents {
     pub n: usize,
     pub k: usize,
@@ -37,14 +39,14 @@ pub struct Contents {
 }
 
 // What reading comes to: the contents, or a fault's number and offset.
-#[derive(Drop)]
+#[derive(Clone, Copy)]
 pub enum Outcome {
     Read(Contents),
     Fault(u8, usize),
 }
 
 // A task's six numbers, as a file's head carries them.
-#[derive(Drop)]
+#[derive(Clone, Copy)]
 pub struct Head {
     pub n: usize,
     pub k: usize,
@@ -55,7 +57,7 @@ pub struct Head {
 }
 
 // What writing comes to: the file's length, or a refusal's number.
-#[derive(Drop)]
+#[derive(Clone, Copy)]
 pub enum Filed {
     Written(usize),
     Refused(u8),

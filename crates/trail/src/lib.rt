@@ -1,5 +1,7 @@
 // Path reading without the machine: going back from the goal over passage numbers, and writing the states met, start
 // first, into the part of a buffer that is lent for them.
+#![tactic(auto)]
+
 ghost use Rattle.std.specs.Prelude.{◌≡◌, [], ◌++◌, ◌≤◌, ◌<◌, length, drop};
 ghost use Rattle.trail.specs.Trail.{trail, is_home, is_linked, path};
 ghost use Rattle.trail.specs.Laws.{Inside, Followed, states_back};

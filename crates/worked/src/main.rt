@@ -1,4 +1,6 @@
 // The worked runs that a program runs and compares: A1 with its path, the runs without a star, and odd input.
+#![tactic(auto)]
+
 use desk::{Answer, Machine, Reply};
 use libc::STDOUT_FILENO;
 
