@@ -42,6 +42,7 @@ pub fn is_live(mark: u8) -> bool
 }
 
 // A state with mark_t and label_t holds one with label_s back: it is live, and the other isn't independent of it.
+#[tactic(auto, unfolding(crate::specs::Rule::holds_back))]
 pub fn holds_back(mark_t: u8, label_s: u32, label_t: u32, excess: u16, h: u32) -> bool
     ensures { result ≡ holds_back mark_t label_s label_t excess h }
 {
@@ -59,6 +60,7 @@ pub fn key(label: u32, pull: u16, h: u32) -> u64
 }
 
 // A far end with this mark and label gets the label `sum`.
+#[tactic(auto, unfolding(crate::specs::Rule::lowers))]
 pub fn lowers(mark: u8, label: u32, sum: u32) -> bool
     ensures { result ≡ lowers mark label sum }
 {
@@ -111,6 +113,7 @@ pub fn cost(passages: &[u32], i: usize) -> u32
 }
 
 // Passage i isn't blocked.
+#[tactic(auto, unfolding(crate::specs::Task::is_clear))]
 pub fn is_clear(passages: &[u32], i: usize) -> bool
     requires { i < passage_count passages.now }
     ensures { result ≡ is_clear passages.now i }
