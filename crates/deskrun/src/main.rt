@@ -1,9 +1,9 @@
-// `deskrun` as a program of Rattle alone, which `rt check` builds and runs: a task file in, the printed lines out. Such a
-// program has no exit status, so ./deskrun runs the one of program/main.c; both are this one call.
+// `deskrun` as a program of Rattle alone, which `rt ci` builds and runs: a task file in, the printed lines out. It ends with status 0
+// whatever the file; `exits` is the program that passes the number on, and that ./deskrun runs. Both are this one call.
 #![tactic(auto)]
 
-fn main() {
+fn main(rt: HostRuntime) {
     let mut file = [0u8; 65537];
     let mut text = [0u8; 589824];
-    filter::deskrun(&mut file, &mut text);
+    filter::deskrun(&rt, &mut file, &mut text);
 }

@@ -5,8 +5,6 @@ ghost use Rattle.filter.specs.Run.{Answered, Ran};
 
 mod stream;
 
-use libc::{STDIN_FILENO, STDOUT_FILENO};
-
 // What reading to the end came to: how many bytes there were, or that it failed.
 #[derive(Clone, Copy)]
 pub enum Filled {
@@ -23,12 +21,12 @@ pub enum Drained {
 }
 
 // Reports on a file that was read, and writes the text to standard output. The status is the file's where all was written.
-fn tell(file: &[u8], text: &mut [u8]) -> u32
+fn tell(rt: &HostRuntime, file: &[u8], text: &mut [u8]) -> u32
     ensures { Answered result file.now text.old text.new }
 {
     let many = report::report(file, text);
     let status = report::status_of(file);
-    let drained = stream::drain(STDOUT_FILENO, &text[..many]);
+    let drained = stream::drain(rt, &text[..many]);
     match drained {
         Drained::Whole => status as u32,
         Drained::Gone => 141,
@@ -37,21 +35,20 @@ fn tell(file: &[u8], text: &mut [u8]) -> u32
 }
 
 // Reads the file from standard input, and reports on it where it could be read to its end.
-fn run(file: &mut [u8], text: &mut [u8]) -> u32
+pub fn run(rt: &HostRuntime, file: &mut [u8], text: &mut [u8]) -> u32
     ensures { Ran result file.new text.old text.new }
 {
-    let filled = stream::fill(STDIN_FILENO, file);
+    let filled = stream::fill(rt, file);
     match filled {
-        Filled::Whole(got) => tell(&file[..got], text),
+        Filled::Whole(got) => tell(rt, &file[..got], text),
         Filled::Failed => 3,
     }
 }
 
-// `deskrun` for a C main: room for a file and one byte more, so that a longer one is seen to be too long, and for the
+// `deskrun`: room for a file and one byte more, so that a longer one is seen to be too long, and for the
 // longest text. The number that comes back is the exit status.
-#[unsafe(no_mangle)]
-pub extern "C" fn deskrun(file: &mut [u8; 65537], text: &mut [u8; 589824]) -> u32
+pub fn deskrun(rt: &HostRuntime, file: &mut [u8; 65537], text: &mut [u8; 589824]) -> u32
     ensures { Ran result file.new text.old text.new }
 {
-    run(file, text)
+    run(rt, file, text)
 }

@@ -1,118 +1,127 @@
-// Reading a descriptor to its end, and writing to one until all is written, with failures told apart from the end. A
+// Reading standard input to its end, and writing to standard output until all is written, with failures told apart from the end. A
 // failure is said on standard error, with the error's name.
 ghost use Rattle.std.specs.Prelude.{◌≡◌, length};
 ghost use Rattle.filter.specs.Run.{Within};
 
 use super::{Drained, Filled};
-use libc::types::timespec;
+use std::fs::OpenOptions;
+use std::io::{ErrorKind, Read, Write};
+use std::time::Duration;
+use std::{fs, io, thread};
 
 // Waits for about a millisecond.
-fn pause() {
-    let asked = timespec {
-        tv_sec: 0,
-        tv_nsec: 1000000,
-    };
-    let mut left = timespec {
-        tv_sec: 0,
-        tv_nsec: 0,
-    };
-    libc::nanosleep(&asked, &mut left);
+fn pause(rt: &HostRuntime) {
+    thread::sleep(rt, Duration::from_millis(1));
 }
 
 // Whether a call that failed so is to be made again: at once where a signal came between, after a pause where the
 // descriptor is one that doesn't wait by itself.
-fn passes(error: i32) -> bool {
-    if error == libc::EINTR {
-        return true;
+fn passes(rt: &HostRuntime, error: &io::Error) -> bool {
+    match error.kind() {
+        ErrorKind::Interrupted => true,
+        ErrorKind::WouldBlock => {
+            pause(rt);
+            true
+        }
+        _ => false,
     }
-    if error == libc::EAGAIN {
-        pause();
-        return true;
-    }
-    false
+}
+
+// Says on standard error what can't be done, with the error's name.
+fn fail(rt: &HostRuntime, what: &str, error: &io::Error) {
+    let _ = match format!(in rt.alloc(); "{error}") {
+        // the name, without the number that std puts after it
+        Ok(text) => match text.find(" (os error ") {
+            Some(end) => eprintln!(rt; "deskrun: cannot {what}: {}", &text[..end]),
+            None => eprintln!(rt; "deskrun: cannot {what}: {text}"),
+        },
+        Err(_) => eprintln!(rt; "deskrun: cannot {what}"),
+    };
 }
 
 // Reads until buf is full or the input ends. A loop has to end, and nothing says that an input does, so the turns are
-// counted down from a number that no run uses up.
-pub fn fill(fd: i32, buf: &mut [u8]) -> Filled
+// counted to a number that no run uses up.
+pub fn fill(rt: &HostRuntime, buf: &mut [u8]) -> Filled
     ensures { Within (length buf.new) result }
 {
     let mut done: usize = 0;
-    let mut turns = u64::MAX;
-    while turns > 0 {
-        turns -= 1;
+    for _ in 0..u64::MAX {
         if done == buf.len() {
             return Filled::Whole(done);
         }
-        let got = libc::read(fd, &mut buf[done..]);
-        if got == 0 {
-            return Filled::Whole(done);
-        }
-        if got > 0 {
-            done += io::count(got, &buf[done..]);
-        } else if !passes(os::errno()) {
-            return unread();
+        match rt.stdin().read(&mut buf[done..]) {
+            Ok(0) => return Filled::Whole(done),
+            Ok(got) => done += got,
+            Err(error) => {
+                if !passes(rt, &error) {
+                    return unread(rt, &error);
+                }
+            }
         }
     }
-    unread()
-}
-
-fn unread() -> Filled
-    ensures { result ≡ Filled.Failed }
-{
-    os::fail(b"deskrun: cannot read");
     Filled::Failed
 }
 
-// Writes all of buf and, where that was something, closes the descriptor: some file systems say only then that a write
+fn unread(rt: &HostRuntime, error: &io::Error) -> Filled
+    ensures { result ≡ Filled.Failed }
+{
+    fail(rt, "read", error);
+    Filled::Failed
+}
+
+// Writes all of buf and, where that was something and goes to a file, has it carried there: some file systems say only then that a write
 // has failed.
-pub fn drain(fd: i32, buf: &[u8]) -> Drained {
+pub fn drain(rt: &HostRuntime, buf: &[u8]) -> Drained {
     let mut done: usize = 0;
-    let mut turns = u64::MAX;
-    while turns > 0 {
-        turns -= 1;
+    for _ in 0..u64::MAX {
         if done == buf.len() {
-            if is_closed(fd, done) {
-                return Drained::Whole;
-            }
-            return unwritten();
+            return settle(rt, done);
         }
-        let put = libc::write(fd, &buf[done..]);
-        if put == 0 {
-            io::write_all(
-                libc::STDERR_FILENO,
-                b"deskrun: cannot write: nothing was taken\n",
-            );
-            return Drained::Failed;
-        }
-        if put > 0 {
-            done += io::count(put, &buf[done..]);
-        } else {
-            let error = os::errno();
-            if error == libc::EPIPE {
-                return Drained::Gone;
+        match rt.stdout().write(&buf[done..]) {
+            Ok(0) => {
+                let _ = eprintln!(rt; "deskrun: cannot write: nothing was taken");
+                return Drained::Failed;
             }
-            if !passes(error) {
-                return unwritten();
+            Ok(put) => done += put,
+            Err(error) => {
+                if error.kind() == ErrorKind::BrokenPipe {
+                    return Drained::Gone;
+                }
+                if !passes(rt, &error) {
+                    return unwritten(rt, &error);
+                }
             }
         }
     }
-    unwritten()
-}
-
-fn unwritten() -> Drained {
-    os::fail(b"deskrun: cannot write");
     Drained::Failed
 }
 
-// Whether a descriptor is closed, with no error left over, after so many bytes were written to it. A signal that comes
-// between leaves it closed.
-fn is_closed(fd: i32, written: usize) -> bool {
+fn unwritten(rt: &HostRuntime, error: &io::Error) -> Drained {
+    fail(rt, "write", error);
+    Drained::Failed
+}
+
+// What writing came to, once so many bytes were taken.
+fn settle(rt: &HostRuntime, written: usize) -> Drained {
     if written == 0 {
-        return true;
+        return Drained::Whole;
     }
-    if libc::close(fd) == 0 {
-        return true;
+    match carried(rt) {
+        Ok(()) => Drained::Whole,
+        Err(error) => unwritten(rt, &error),
     }
-    os::errno() == libc::EINTR
+}
+
+// Has what was written to standard output carried to the file that it is. A pipe, a terminal or a connection keeps nothing, and what may
+// not be opened once more can't be asked.
+fn carried(rt: &HostRuntime) -> io::Result<()> {
+    let place = "/dev/stdout";
+    match fs::metadata(rt, place) {
+        Ok(found) if found.is_file() => {}
+        _ => return Ok(()),
+    }
+    match OpenOptions::new().append(true).open(rt, place) {
+        Ok(file) => file.sync_all(),
+        Err(_) => Ok(()),
+    }
 }
