@@ -1,19 +1,16 @@
 -- What the functions of the limited Take come to over rows, marks and keys: the row of keys, the test of one candidate, the next candidate. With the laws that their loops use.
-use Rattle.std.specs.Prelude.{◌≡◌, refl, Bool, cond, ◌&&◌, ◌||◌, not, List, ◌⊎◌, ℕ, ◌+◌, ◌≤◌, ◌<◌, ltb, eqb, length, get_or, replicate}
+use Rattle.std.specs.Prelude.{◌≡◌, Bool, cond, ◌&&◌, ◌||◌, not, List, ◌⊎◌, ℕ, ◌+◌, ◌≤◌, ◌<◌, ltb, eqb, get_or}
 use Rattle.std.proofs.Math.Path.{sym}
 use Rattle.std.proofs.Common.{◌∙◌, inl, inr, ⊎_elim, arith}
 use Rattle.std.proofs.Math.Bool.{true, false}
 use Rattle.std.proofs.Math.Dec.{leb}
 use borrow.Author.Tests.{eq-eqb, ne_eqb, eqb-true, ltb-true, lt-ltb, le-ltb, le-leb, lt-leb}
-use Rattle.laws.specs.Part.{overlaid}
-use Rattle.laws.specs.Fill.{made}
 use Rattle.laws.specs.Truth.{and_left, and_right, and_both, and_false, and_true, or_either, or_second}
 use Rattle.laws.specs.First.{first, first_zero, first_more, first_found, first_end, first_from}
 use Rattle.laws.specs.Count.{count, count_zero, count_yes, count_no, count_eq, count_upto, count_rises}
 use Rattle.laws.specs.Least.{least, After}
-use Rattle.rule.specs.Task.{estimate}
 use Rattle.rule.specs.Marks.{waiting, is_open, is_out}
-use Rattle.rule.specs.Rule.{independent, key_of}
+use Rattle.rule.specs.Rule.{independent}
 use Rattle.dealing.specs.declared.limits.Test.{Test}
 use Rattle.dealing.specs.declared.limits.Test.TheVariants.{Cut as TestCut, Ended}
 use Rattle.dealing.specs.Board.{Board, label_at, h}

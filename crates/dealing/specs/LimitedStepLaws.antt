@@ -9,20 +9,19 @@ use Rattle.std.proofs.Math.Decide.{ℕ_discrete}
 use native.Mathlib.Omega.{arith}
 use Rattle.std.proofs.Math.Dec.{ltb}
 use borrow.Author.Tests.{eq-eqb, ne_eqb, eqb-true, ltb-true, ltb-false, lt-ltb, le-ltb}
-use Rattle.laws.specs.Fill.{made, made_length, made_at, overlaid_at}
+use Rattle.laws.specs.Fill.{made}
 use Rattle.laws.specs.Truth.{and_left}
 use Rattle.laws.specs.First.{first_same}
 use Rattle.laws.specs.Count.{count_eq}
 use Rattle.laws.specs.Least.{after_on, after_not, least_same}
-use Rattle.rule.specs.Task.{estimate}
 use Rattle.rule.specs.Marks.{waiting, out, is_open, is_out}
-use Rattle.rule.specs.Rule.{independent, holds_back, key_of}
+use Rattle.rule.specs.Rule.{independent, holds_back}
 use Rattle.dealing.specs.declared.Decision.TheVariants.{Found, NoPath, Deal, Wait}
 use Rattle.dealing.specs.declared.Limited.TheVariants.{Cut, Decided}
 use Rattle.dealing.specs.declared.limits.Test.TheVariants.{Cut as TestCut, Ended}
 use Rattle.dealing.specs.declared.limits.Tries.{Tries}
 use Rattle.dealing.specs.declared.limits.Tries.TheVariants.{Cut as TriesCut, Passed, Failed}
-use Rattle.dealing.specs.Board.{Board, board, mark_at, label_at, h, depends_on, key, foremost, any_open, any_out, first_marked}
+use Rattle.dealing.specs.Board.{Board, mark_at, label_at, h, depends_on, key, foremost, any_open, any_out, first_marked}
 use Rattle.dealing.specs.Laws.{Keyed, foremost_some, foremost_none, foremost_any, busy_open, busy_out, out_by}
 use Rattle.dealing.specs.Limited.{Trial, compared, stops_at, comparisons, passes, follows, next, candidates, tried, full_count, stopped_by, limited_decision, limited}
 use Rattle.dealing.specs.LimitedRowLaws.{is_rival, rivals, holds_off, comes_after, comes_on, next_in, stop_of, made_of, test_of, front_stop}
