@@ -99,7 +99,7 @@ module _ {t : Task} where
   events_run : {m : Machine} → Standing t m → (es : List Event) → Run t m (after t.passages t.estimates m es) (replies t.passages t.estimates m es)
   unfolding after replies answers
   events_run z [] = run_none z
-  events_run z (e ∷ es) = let r = event_run z e in run_then r (events_run r.stands es)
+  events_run {m = m} z (e ∷ es) = let r = event_run z e in run_then r (events_run {m = (call t.passages t.estimates m e).machine} r.stands es)
 
   module _ {m : Machine} (z : Standing t m) where
     -- a refusal, of whatever call, is one
@@ -135,4 +135,4 @@ module _ {t : Task} where
   pub day_run : {m : Machine} → Standing t m → (day : List Call) → Run t m (reached_from t m day) (said_from t m day)
   unfolding reached_from said_from
   day_run z [] = run_none z
-  day_run z (c ∷ day) = let r = call_run z c in run_then r (day_run r.stands day)
+  day_run {m = m} z (c ∷ day) = let r = call_run z c in run_then r (day_run {m = (answer_to t m c).machine} r.stands day)
