@@ -1,6 +1,6 @@
-/* Loaded before the C library by tests/programs: makes some calls of read, write or close fail or fall short. FAULT is
+/* Loaded before the C library by tests/programs: makes some calls of read, write or fsync fail or fall short. FAULT is
  * `CALL CODE SKIP TIMES`: after SKIP calls of CALL, TIMES of them fail with the error CODE; or move nothing, where CODE is 0;
- * or one byte, where it is -1. Only descriptors 0 and 1 are looked at. Each such call puts a byte into the file FAULT_LOG. */
+ * or one byte, where it is -1. Of reads and writes only descriptors 0 and 1 are looked at. Each such call puts a byte into the file FAULT_LOG. */
 #define _GNU_SOURCE
 #include <errno.h>
 #include <fcntl.h>
@@ -15,7 +15,7 @@ static int code, skip, times = -1;
 
 static int faulty(int fd, const char *name) {
     if (times < 0 && sscanf(getenv("FAULT"), "%7s %d %d %d", call, &code, &skip, &times) != 4) abort();
-    if (fd > 1 || strcmp(name, call) != 0 || times == 0) return 0;
+    if ((fd > 1 && strcmp(name, "fsync") != 0) || strcmp(name, call) != 0 || times == 0) return 0;
     if (skip > 0) { skip--; return 0; }
     times--;
     int log = open(getenv("FAULT_LOG"), O_WRONLY | O_APPEND | O_CREAT, 0600);
@@ -34,8 +34,7 @@ ssize_t read(int fd, void *buf, size_t n) { return moved(SYS_read, fd, buf, n, f
 
 ssize_t write(int fd, const void *buf, size_t n) { return moved(SYS_write, fd, buf, n, faulty(fd, "write")); }
 
-int close(int fd) {
-    int is_faulty = faulty(fd, "close"), closed = (int)syscall(SYS_close, fd);
-    if (is_faulty) { errno = code; return -1; }
-    return closed;
+int fsync(int fd) {
+    if (faulty(fd, "fsync")) { errno = code; return -1; }
+    return (int)syscall(SYS_fsync, fd);
 }
