@@ -137,7 +137,7 @@ pub fn file_small(passages: usize, n: usize, calls: usize) -> bool
 }
 
 // The number of the first refusal, into a buffer of so many places; 0 where none applies.
-#[tactic(auto, unfolding(crate::specs::WritingLaws::writing_fault))]
+#[tactic(auto, using(crate::specs::WritingLaws::file_length), unfolding(crate::specs::WritingLaws::writing_fault))]
 pub fn fault(head: Head, passages: &[u32], estimates: &[u32], calls: &[u32], room: usize) -> u8
     ensures { result ≡ writing_fault head passages.now estimates.now calls.now room }
 {
