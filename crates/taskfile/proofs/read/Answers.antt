@@ -10,7 +10,8 @@ returns-then-file-gt65536 c =
 
 pub returns-then-s-ne-ALL_READ : goal.returns-then-s-ne-ALL_READ
 returns-then-s-ne-ALL_READ c =
-    let e = read_fault c.args.file.now c.args.passages.now c.args.estimates.now c.args.calls.now c.if-file-gt65536.false c.scan-s.result c.scan-s.ensures c.if-s-ne-ALL_READ.true in
+    let e = read_fault c.args.file.now c.args.passages.now c.args.estimates.now c.args.calls.now
+    c.if-file-gt65536.false c.scan-s.result c.scan-s.ensures c.if-s-ne-ALL_READ.true in
     record { value = rw e; passages_after = rw e; estimates_after = rw e; calls_after = rw e }
 
 pub roomy-requires : goal.roomy-requires
@@ -20,7 +21,8 @@ roomy-requires c =
 
 pub returns-then-not-roomy : goal.returns-then-not-roomy
 returns-then-not-roomy c =
-    let e = read_short c.args.file.now c.args.passages.now c.args.estimates.now c.args.calls.now c.if-file-gt65536.false c.scan-s.result c.scan-s.ensures c.if-s-ne-ALL_READ.false (sym c.if-not-roomy.ensures) in
+    let e = read_short c.args.file.now c.args.passages.now c.args.estimates.now c.args.calls.now
+    c.if-file-gt65536.false c.scan-s.result c.scan-s.ensures c.if-s-ne-ALL_READ.false (sym c.if-not-roomy.ensures) in
     record { value = rw e; passages_after = rw e; estimates_after = rw e; calls_after = rw e }
 
 pub put_passages-requires : goal.put_passages-requires
@@ -47,7 +49,8 @@ contents-requires c =
 
 pub returns : goal.returns
 returns c =
-    let e = read_all c.args.file.now c.args.passages.now c.args.estimates.now c.args.calls.now c.if-file-gt65536.false c.scan-s.result c.scan-s.ensures c.if-s-ne-ALL_READ.false (sym c.if-not-roomy.ensures) in
+    let e = read_all c.args.file.now c.args.passages.now c.args.estimates.now c.args.calls.now
+    c.if-file-gt65536.false c.scan-s.result c.scan-s.ensures c.if-s-ne-ALL_READ.false (sym c.if-not-roomy.ensures) in
     record {
       value = rw (e, c.contents.ensures);
       passages_after = rw e c.put_passages.ensures;

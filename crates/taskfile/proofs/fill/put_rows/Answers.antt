@@ -10,7 +10,8 @@ loop-r-init c = rows_zero _ _ _ _
 
 pub loop-r-preserved : goal.loop-r-preserved
 loop-r-preserved c =
-    rows_more _ _ _ _ _ _ c.loop-r.r c.loop-r.invariant (omega (arith, part_inside c.loop-r.r c.args.n c.args.n c.loop-r-test.true)) (rw row_width c.put_row.ensures)
+    rows_more _ _ _ _ _ _ c.loop-r.r c.loop-r.invariant
+    (omega (arith, part_inside c.loop-r.r c.args.n c.args.n c.loop-r-test.true)) (rw row_width c.put_row.ensures)
 
 pub returns : goal.returns
 unfolding file_estimates row_in

@@ -11,4 +11,5 @@ loop-i-init c = stacked_zero (call_record _) (payload_place + call_length) (call
 
 pub loop-i-preserved : goal.loop-i-preserved
 loop-i-preserved c =
-    stacked_more (call_record c.args.calls.now) (payload_place + call_length) (call_length_lem _) _ _ _ _ c.loop-i.i (c.args.at + (payload_place + call_length) * c.loop-i.i) c.loop-i.invariant (omega arith) (omega arith) c.put_call_record.ensures
+    stacked_more (call_record c.args.calls.now) (payload_place + call_length) (call_length_lem _) _ _ _ _ c.loop-i.i
+    (c.args.at + (payload_place + call_length) * c.loop-i.i) c.loop-i.invariant (omega arith) (omega arith) c.put_call_record.ensures

@@ -9,4 +9,5 @@ loop-c-init c = stacked_zero (estimate_bytes c.args.estimates.now c.args.from) 4
 
 pub loop-c-preserved : goal.loop-c-preserved
 loop-c-preserved c =
-    stacked_more (estimate_bytes c.args.estimates.now c.args.from) 4 (λ i. bytes_length 4 _) _ _ _ _ c.loop-c.c (c.args.at + 4 * c.loop-c.c) c.loop-c.invariant (omega arith) (omega arith) c.put_long.ensures
+    stacked_more (estimate_bytes c.args.estimates.now c.args.from) 4 (λ i. bytes_length 4 _) _ _ _ _ c.loop-c.c
+    (c.args.at + 4 * c.loop-c.c) c.loop-c.invariant (omega arith) (omega arith) c.put_long.ensures

@@ -10,4 +10,5 @@ loop-i-init c = stacked_zero (passage_record _) 12 (passage_length_lem _) 16 _
 
 pub loop-i-preserved : goal.loop-i-preserved
 loop-i-preserved c =
-    stacked_more (passage_record c.args.passages.now) 12 (passage_length_lem _) 16 _ _ _ c.loop-i.i (16 + 12 * c.loop-i.i) c.loop-i.invariant (omega arith) (omega arith) c.put_passage_record.ensures
+    stacked_more (passage_record c.args.passages.now) 12 (passage_length_lem _) 16 _ _ _ c.loop-i.i
+    (16 + 12 * c.loop-i.i) c.loop-i.invariant (omega arith) (omega arith) c.put_passage_record.ensures
