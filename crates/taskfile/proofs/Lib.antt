@@ -1,2 +1,1 @@
--- Beside the proofs of the functions: that each contract determines its answer.
-pub mod Determined
+-- Nothing stands beside the proofs of the functions.

@@ -11,6 +11,7 @@ pub fn byte(file: &[u8], at: usize) -> usize
 }
 
 // Two bytes, the low one first.
+#[tactic(auto, using(crate::specs::BytesLaws::word_is))]
 pub fn word(file: &[u8], at: usize) -> usize
     requires { at + 1 < length file.now }
     ensures { (result ≡ word file.now at) × (result < 65536) }
@@ -19,6 +20,7 @@ pub fn word(file: &[u8], at: usize) -> usize
 }
 
 // Four bytes, the lowest first.
+#[tactic(auto, using(crate::specs::BytesLaws::long_is))]
 pub fn long(file: &[u8], at: usize) -> u32
     requires { at + 3 < length file.now }
     ensures { result ≡ long file.now at }

@@ -7,6 +7,7 @@ ghost use Rattle.taskfile.specs.WritingLaws.{call_carried, writing_fault};
 use super::{Head, faults};
 
 // The number of states is 1 to 64, the passages are whole and at most 512, and the estimates are n × n.
+#[tactic(auto, unfolding(crate::specs::Writing::sizes_carried))]
 pub fn sizes_carried(n: usize, passages: usize, estimates: usize) -> bool
     ensures { result ≡ sizes_carried n passages estimates }
 {
@@ -26,6 +27,7 @@ pub fn sizes_carried(n: usize, passages: usize, estimates: usize) -> bool
 }
 
 // A number that two bytes hold.
+#[tactic(auto, unfolding(crate::specs::Bytes::beyond))]
 pub fn fits_word(x: usize) -> bool
     ensures { result ≡ within 2 x }
 {
@@ -33,6 +35,7 @@ pub fn fits_word(x: usize) -> bool
 }
 
 // The head's other five numbers.
+#[tactic(auto, unfolding(crate::specs::Writing::head_carried))]
 pub fn head_carried(head: Head) -> bool
     ensures { result ≡ head_carried head }
 {
@@ -52,6 +55,7 @@ pub fn head_carried(head: Head) -> bool
 }
 
 // The ends of every passage.
+#[tactic(auto, unfolding(crate::specs::Writing::ends_carried))]
 pub fn ends_carried(passages: &[u32]) -> bool
     ensures { result ≡ ends_carried passages.now }
 {
@@ -68,6 +72,7 @@ pub fn ends_carried(passages: &[u32]) -> bool
 }
 
 // An event that is a Take or a Bring, of a worker that one byte holds.
+#[tactic(auto, unfolding(crate::specs::Bytes::beyond))]
 pub fn call_carried(event: u32) -> bool
     ensures { result ≡ call_carried event }
 {
@@ -78,6 +83,7 @@ pub fn call_carried(event: u32) -> bool
 }
 
 // Every event.
+#[tactic(auto, unfolding(crate::specs::Writing::calls_carried))]
 pub fn calls_carried(calls: &[u32]) -> bool
     ensures { result ≡ calls_carried calls.now }
 {
@@ -90,6 +96,7 @@ pub fn calls_carried(calls: &[u32]) -> bool
 }
 
 // The task and the events.
+#[tactic(auto, unfolding(crate::specs::Writing::carried))]
 pub fn carried(head: Head, passages: &[u32], estimates: &[u32], calls: &[u32]) -> bool
     ensures { result ≡ carried head passages.now estimates.now calls.now }
 {
@@ -130,6 +137,7 @@ pub fn file_small(passages: usize, n: usize, calls: usize) -> bool
 }
 
 // The number of the first refusal, into a buffer of so many places; 0 where none applies.
+#[tactic(auto, using(crate::specs::WritingLaws::file_length), unfolding(crate::specs::WritingLaws::writing_fault))]
 pub fn fault(head: Head, passages: &[u32], estimates: &[u32], calls: &[u32], room: usize) -> u8
     ensures { result ≡ writing_fault head passages.now estimates.now calls.now room }
 {

@@ -26,6 +26,7 @@ pub fn contents(file: &[u8], s: Scan) -> Contents
 }
 
 // Slices of these lengths are long enough for what was scanned.
+#[tactic(auto, unfolding(crate::specs::Contents::roomy_for))]
 pub fn roomy(s: Scan, passages: usize, estimates: usize, calls: usize) -> bool
     requires { (s.passages ≤ 512) × (s.n ≤ 64) }
     ensures { result ≡ roomy_for s passages estimates calls }
@@ -74,6 +75,7 @@ pub fn put_rows(file: &[u8], passages: usize, n: usize, estimates: &mut [u32])
 }
 
 // A call's worker.
+#[tactic(auto, using(crate::specs::BytesLaws::byte_is))]
 pub fn worker(file: &[u8], at: usize) -> usize
     requires { at + worker_width ≤ length file.now }
     ensures { (result ≡ number_at worker_width file.now at) × (result < 65536) }

@@ -10,6 +10,7 @@ ghost use Rattle.taskfile.specs.WritingLaws.{estimate_bytes};
 use super::Head;
 
 // One byte, the lowest of a number.
+#[tactic(auto, using(laws::specs::Fill::overlaid_one), unfolding(crate::specs::Bytes::bytes_of))]
 pub fn put_byte(buffer: &mut [u8], at: usize, x: usize)
     requires { at < length buffer.old }
     ensures { buffer.new ≡ overlaid at (bytes_of 1 x) buffer.old }
@@ -45,6 +46,7 @@ pub fn put_length_and_kind(buffer: &mut [u8], at: usize, payload: usize, kind: u
 }
 
 // The head, at the front.
+#[tactic(auto, using(crate::specs::PutLaws::head_put))]
 pub fn put_head(buffer: &mut [u8], head: Head)
     requires { 16 ≤ length buffer.old }
     ensures { buffer.new ≡ overlaid 0 (head_record head) buffer.old }
@@ -59,6 +61,7 @@ pub fn put_head(buffer: &mut [u8], head: Head)
 }
 
 // Passage i.
+#[tactic(auto, using(crate::specs::PutLaws::passage_put))]
 pub fn put_passage_record(buffer: &mut [u8], at: usize, passages: &[u32], i: usize)
     requires { (at + 12 ≤ length buffer.old) × (3 * i + 2 < length passages.now) }
     ensures { buffer.new ≡ overlaid at (passage_record passages.now i) buffer.old }
@@ -91,6 +94,7 @@ pub fn put_estimates(buffer: &mut [u8], at: usize, estimates: &[u32], from: usiz
 }
 
 // Row r.
+#[tactic(auto, using(crate::specs::PutLaws::row_put))]
 pub fn put_row_record(buffer: &mut [u8], at: usize, estimates: &[u32], n: usize, r: usize)
     requires { (at + (6 + 4 * n) ≤ length buffer.old) × (r * n + n ≤ length estimates.now) }
     ensures { buffer.new ≡ overlaid at (row_record estimates.now n r) buffer.old }
@@ -119,6 +123,7 @@ pub fn put_worker(buffer: &mut [u8], at: usize, worker: usize)
 }
 
 // Call i.
+#[tactic(auto, using(crate::specs::PutLaws::call_put))]
 pub fn put_call_record(buffer: &mut [u8], at: usize, calls: &[u32], i: usize)
     requires { (at + (payload_place + call_length) ≤ length buffer.old) × (i < length calls.now) }
     ensures { buffer.new ≡ overlaid at (call_record calls.now i) buffer.old }
@@ -140,6 +145,7 @@ pub fn put_call_records(buffer: &mut [u8], at: usize, calls: &[u32])
 }
 
 // The whole file, and its length.
+#[tactic(auto, using(crate::specs::PutLaws::file_put, crate::specs::WritingLaws::file_length, crate::specs::Laws::row_width))]
 pub fn put_file(
     buffer: &mut [u8],
     head: Head,

@@ -30,6 +30,7 @@ pub fn complete(s: Scan) -> bool
 }
 
 // A head.
+#[tactic(auto, unfolding(crate::specs::Scan::head_at))]
 pub fn head_at(file: &[u8], s: Scan) -> Scan
     requires { Inside file.now s }
     ensures { result ≡ head_at file.now s }
@@ -59,6 +60,7 @@ pub fn head_at(file: &[u8], s: Scan) -> Scan
 }
 
 // A passage.
+#[tactic(auto, unfolding(crate::specs::Scan::passage_at))]
 pub fn passage_at(file: &[u8], s: Scan) -> Scan
     requires { Inside file.now s }
     ensures { result ≡ passage_at file.now s }
@@ -87,6 +89,7 @@ pub fn passage_at(file: &[u8], s: Scan) -> Scan
 }
 
 // A row of estimates.
+#[tactic(auto, unfolding(crate::specs::Scan::row_at))]
 pub fn row_at(file: &[u8], s: Scan) -> Scan
     requires { Inside file.now s × (s.n ≤ 64) }
     ensures { result ≡ row_at file.now s }
@@ -112,6 +115,7 @@ pub fn row_at(file: &[u8], s: Scan) -> Scan
 }
 
 // A call.
+#[tactic(auto, unfolding(crate::specs::Scan::call_at))]
 pub fn call_at(file: &[u8], s: Scan) -> Scan
     requires { Inside file.now s × (s.calls < 65536) }
     ensures { result ≡ call_at file.now s }
@@ -137,6 +141,7 @@ pub fn call_at(file: &[u8], s: Scan) -> Scan
 }
 
 // A record, by its kind.
+#[tactic(auto, unfolding(crate::specs::Scan::record_at))]
 pub fn record_at(file: &[u8], s: Scan) -> Scan
     requires { Inside file.now s × ((s.n ≤ 64) × (s.calls < 65536)) }
     ensures { result ≡ record_at file.now s }
@@ -158,6 +163,7 @@ pub fn record_at(file: &[u8], s: Scan) -> Scan
 }
 
 // One record more, or the end.
+#[tactic(auto, unfolding(crate::specs::Scan::advance))]
 pub fn advance(file: &[u8], s: Scan) -> Scan
     requires { (length file.now ≤ 65536) × ((s.n ≤ 64) × (s.calls < 65536)) }
     ensures { result ≡ advance file.now s }
