@@ -1,1 +1,2 @@
--- Nothing stands beside the proofs of the functions.
+-- Beside the proofs of the functions: that each contract determines its answer.
+pub mod Determined
