@@ -16,7 +16,7 @@ import sys
 ROOT = os.path.dirname(os.path.dirname(os.path.realpath(__file__)))
 # In a string or a comment a name is left alone by the first two.
 TOKEN = re.compile(r"\"(?:[^\"\\]|\\.)*\"|[^\s(){}\[\];.,«»\"⌜⌝`]+")
-DECLARES = re.compile(r"^(\s*)((?:(?:pub|abbrev|unfoldable|axiom) )*)((?:record |data )?)([^\s:({\[]+)(?: [^:]*?)? : (.*)")
+DECLARES = re.compile(r"^(\s*)((?:(?:pub|abbrev|unfoldable|axiom) )*)((?:record |data )?)([^\s:({\[]+)(?: [^:]*?)? :(?: (.*)|$)")
 # A lemma that would get the name of a definition, and the crates in which its name is the lemma's.
 LEMMAS = {
     "call_length": ("call_length_lem", "taskfile roundtrip"),
@@ -61,7 +61,7 @@ def declared(text):
     for line in text.split("\n"):
         m = DECLARES.match(line)
         if m and not line.lstrip().startswith("--"):
-            yield m.group(4), m.group(5)
+            yield m.group(4), m.group(5) or ""
 
 
 def turn(text, name_of):

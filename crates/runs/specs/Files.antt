@@ -138,18 +138,18 @@ pub record Files : Type 0 where
   pub file_slices : read whole 4 2 3 ≡
       (Read (record { n = 1; k = 1; start = 0; goal = 0; pull = 100; excess = 100; passages = 1; calls = 2 }), 0 ∷ 0 ∷ 67305985 ∷ 9 ∷ [], 0 ∷ 9 ∷ [], 3 ∷ 65539 ∷ 9 ∷ [])
   -- 21 "fewer bytes left than length and kind take, or than the length then asks for", of an unknown kind too, "or the file ends before the head and all rows are there (offset: file length)"
-  pub file-21 :
+  pub file_21 :
       map outcome ((one ++ (0 ∷ 0 ∷ 5 ∷ [])) ∷ (one ++ front 11 passage) ∷ (one ++ (1 ∷ 0 ∷ 5 ∷ 0 ∷ [])) ∷ [] ∷ one ∷ []) ≡
       Fault 21 16 ∷ Fault 21 16 ∷ Fault 21 16 ∷ Fault 21 0 ∷ Fault 21 16 ∷ []
   -- 22 "unknown kind"
   pub file_22_kind : map outcome ((one ++ (0 ∷ 0 ∷ 0 ∷ 0 ∷ [])) ∷ (one ++ (0 ∷ 0 ∷ 5 ∷ 0 ∷ [])) ∷ []) ≡ Fault 22 16 ∷ Fault 22 16 ∷ []
   -- "payload length wrong for its kind", of a head whose n is 0 too
-  pub file-22-length :
+  pub file_22_length :
       map outcome (longer (head 0 1 0 0 100 100) ∷ (one ++ longer passage) ∷ (one ++ longer (row 1 0)) ∷ (one ++ (row 1 0 ++ longer (call 0 0))) ∷ []) ≡
       Fault 22 0 ∷ Fault 22 16 ∷ Fault 22 16 ∷ Fault 22 26 ∷ []
   -- "kind or row out of order (a kind 4 before the last row too)": a passage, a row, a call first; two heads; a passage after a row; row 1 first; a row too many; a call before the row
   pub file_22_first : map outcome (passage ∷ row 1 0 ∷ call 0 0 ∷ []) ≡ Fault 22 0 ∷ Fault 22 0 ∷ Fault 22 0 ∷ []
-  pub file-22-order :
+  pub file_22_order :
       map outcome ((one ++ one) ∷ (one ++ (row 1 0 ++ passage)) ∷ (one ++ row 1 1) ∷ (one ++ (row 1 0 ++ row 1 1)) ∷ (one ++ call 0 0) ∷ []) ≡
       Fault 22 16 ∷ Fault 22 26 ∷ Fault 22 16 ∷ Fault 22 26 ∷ Fault 22 16 ∷ []
   -- "call above 1"
@@ -160,7 +160,7 @@ pub record Files : Type 0 where
   -- "A file over 65,536 bytes is 23 at 65,536 before all else."
   pub file_23_bytes : outcome (replicate 65537 0) ≡ Fault 23 65536
   -- 27 "after all others (offset 0): a lent slice too short for the passages, estimates or calls read. A fault writes nothing"
-  pub file-27 :
+  pub file_27 :
       read whole 2 2 3 ∷ read whole 4 0 3 ∷ read whole 4 2 1 ∷ read (whole ++ (0 ∷ [])) 0 0 0 ∷ [] ≡
       (Fault 27 0, replicate 2 9, replicate 2 9, replicate 3 9) ∷ (Fault 27 0, replicate 4 9, [], replicate 3 9) ∷ (Fault 27 0, replicate 4 9, replicate 2 9, 9 ∷ []) ∷ (Fault 21 50, [], [], []) ∷ []
   -- Order 6: "Write a task and a list of events as a task file into a lent buffer; the bytes after it stay."
@@ -183,7 +183,7 @@ pub record Files : Type 0 where
   -- "estimate slice not n × n"
   pub write_24_estimates : map (λ long. filed (six 2 1 0 0 100 100) [] (replicate long 0) []) (3 ∷ 4 ∷ 5 ∷ []) ≡ Unwritten 24 ∷ Unwritten 26 ∷ Unwritten 24 ∷ []
   -- "a field above its bytes": k, start, goal, W and E
-  pub write-24-head :
+  pub write_24_head :
       map (λ t. filed t [] (0 ∷ []) []) (
       six 1 65535 65535 65535 65535 65535 ∷
       six 1 65536 0 0 100 100 ∷
@@ -193,7 +193,7 @@ pub record Files : Type 0 where
       six 1 1 0 0 100 65536 ∷ []) ≡
       Unwritten 26 ∷ replicate 5 (Unwritten 24)
   -- a passage's ends; any cost fits its four bytes
-  pub write-24-ends :
+  pub write_24_ends :
       map (λ passages. filed lone passages (0 ∷ []) []) (
       (65535 ∷ 65535 ∷ 4294967295 ∷ []) ∷
       (65536 ∷ 0 ∷ 0 ∷ []) ∷
@@ -201,7 +201,7 @@ pub record Files : Type 0 where
       (0 ∷ 0 ∷ 0 ∷ 65536 ∷ 0 ∷ 0 ∷ []) ∷ []) ≡
       Unwritten 26 ∷ replicate 3 (Unwritten 24)
   -- and a worker, of a Take and of a Bring: 255 and 256
-  pub write-24-worker :
+  pub write_24_worker :
       map (λ event. filed lone [] (0 ∷ []) (event ∷ [])) (255 ∷ 256 ∷ 65791 ∷ 65792 ∷ []) ≡
       Unwritten 26 ∷ Unwritten 24 ∷ Unwritten 26 ∷ Unwritten 24 ∷ []
   -- "an event neither Take nor Bring": a Bring, and then one with a call of 2 behind it
@@ -221,7 +221,7 @@ pub record Files : Type 0 where
   pub text_fault : printed (one ++ (row 1 0 ++ (call 0 0 ++ call 2 0))) ≡ lines ("file 22 32" ∷ [])
   pub text_opening : printed (head 1 1 0 0 101 100 ++ (row 1 0 ++ call 0 0)) ≡ lines ("opening 3" ∷ [])
   -- Order 3: "Refusals, in order: 31 header": "a number from 1 to 256 without leading zeros", "one blank". The rows are wrong too.
-  pub map-31 :
+  pub map_31 :
       map (survey 0 0) (
       lines ("type tile" ∷ "height 1" ∷ "width 1" ∷ "map" ∷ "x" ∷ []) ∷
       drawing "height " "width 1" ("x" ∷ []) ∷
@@ -231,7 +231,7 @@ pub record Files : Type 0 where
       drawing "height 1" "width  1" ("x" ∷ []) ∷ []) ≡
       replicate 6 (Refused 31)
   -- "32 row length, row count or character": no cell is open, and the slices are too short
-  pub map-32 :
+  pub map_32 :
       map (survey 0 0) (
       drawing "height 2" "width 2" ("@@" ∷ "@" ∷ []) ∷
       drawing "height 2" "width 2" ("@@" ∷ []) ∷
@@ -239,7 +239,7 @@ pub record Files : Type 0 where
       drawing "height 2" "width 2" ("@@" ∷ "@x" ∷ []) ∷ []) ≡
       replicate 4 (Refused 32)
   -- "33 no open cell or more than 256": 17 rows of 16; 16 rows of 16 aren't too many
-  pub map-33 :
+  pub map_33 :
       map (survey 0 0) (drawing "height 1" "width 3" ("@OT" ∷ []) ∷ drawing "height 17" "width 16" (replicate 17 "................") ∷ []) ≡ Refused 33 ∷ Refused 33 ∷ []
   pub map_256 : count_right (map_of (drawing "height 16" "width 16" (replicate 16 "................"))) ≡ true
   -- "34 a lent slice too short"; "Reply: the counts of cells and passages"
@@ -268,16 +268,16 @@ unfolding definitions
 files = record {
   file_head = refl;
   file_slices = refl;
-  file-21 = refl;
+  file_21 = refl;
   file_22_kind = refl;
-  file-22-length = refl;
+  file_22_length = refl;
   file_22_first = refl;
-  file-22-order = refl;
+  file_22_order = refl;
   file_22_call = refl;
   file_23_n = refl;
   file_23_passages = refl;
   file_23_bytes = refl;
-  file-27 = refl;
+  file_27 = refl;
   write_whole = refl;
   write_rows = refl;
   write_read = refl;
@@ -286,9 +286,9 @@ files = record {
   write_24_512 = filling_is 512 0 (omega arith);
   write_24_513 = refl;
   write_24_estimates = refl;
-  write-24-head = refl;
-  write-24-ends = refl;
-  write-24-worker = refl;
+  write_24_head = refl;
+  write_24_ends = refl;
+  write_24_worker = refl;
   write_24_event = refl;
   write_24_first = refl;
   write_25_not = filling_is 0 10911 (omega arith);
@@ -299,9 +299,9 @@ files = record {
   text_nopath = refl;
   text_fault = refl;
   text_opening = refl;
-  map-31 = refl;
-  map-32 = refl;
-  map-33 = refl;
+  map_31 = refl;
+  map_32 = refl;
+  map_33 = refl;
   map_256 = refl;
   map_34 = refl;
   map_order = refl;

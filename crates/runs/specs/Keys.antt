@@ -134,7 +134,7 @@ pub record Keys : Type 0 where
   pub brought_lowered : brought (0 ∷ 1 ∷ 4 ∷ []) ∷ brought (0 ∷ 1 ∷ 4 ∷ 0 ∷ 1 ∷ 3 ∷ []) ∷ [] ≡
       (1300 ∷ 1600 ∷ 10150 ∷ 10050 ∷ 0 ∷ []) ∷ (1300 ∷ 1500 ∷ 10150 ∷ 10050 ∷ 0 ∷ []) ∷ []
   -- A state that keeps its label keeps its key: an open one with label 15, an out one, a finished one, the held one, the far end of another state's passage and of a blocked one.
-  pub brought-kept :
+  pub brought_kept :
       map brought ((0 ∷ 1 ∷ 5 ∷ []) ∷ (0 ∷ 2 ∷ 5 ∷ []) ∷ (0 ∷ 3 ∷ 5 ∷ []) ∷ (0 ∷ 0 ∷ 0 ∷ []) ∷ (1 ∷ 4 ∷ 5 ∷ []) ∷ (0 ∷ 4 ∷ 4294967295 ∷ []) ∷ []) ≡
       replicate 6 (1300 ∷ 1700 ∷ 10150 ∷ 10050 ∷ 0 ∷ [])
   -- A key past n stays, whatever it is: "stays so where no rule sets it".
@@ -154,7 +154,7 @@ pub record Keys : Type 0 where
   pub fits_table : map told_by (h 2 4 4 nearer ∷ h 1 4 5 nearer ∷ h 0 4 7 nearer ∷ zeros ∷ h 3 4 2 nearer ∷ h 1 2 2 nearer ∷ nearer ∷ []) ≡
       Refused 8 ∷ Refused 8 ∷ Refused 8 ∷ Refused 8 ∷ Wait 1 ∷ Wait 1 ∷ Wait 1 ∷ []
   -- Other numbers in the machine than those the keys were made with: W 51, W 0, goal 3. Start, k and E make no key; with E 200, 300 > 200.
-  pub fits-numbers :
+  pub fits_numbers :
       map told_as (
       task 5 2 0 4 51 100 passages nearer ∷
       task 5 2 0 4 0 100 passages nearer ∷
@@ -168,15 +168,15 @@ pub record Keys : Type 0 where
   -- 8 comes before 9, 10 and 11, which apply too.
   pub refused_order : asked wrong ∷ asked underway ∷ [] ≡ (Refused 8 ∷ Refused 8 ∷ Refused 8 ∷ Refused 8 ∷ []) ∷ (Refused 9 ∷ Refused 10 ∷ Refused 11 ∷ Refused 11 ∷ []) ∷ []
   -- A limited Take, with a count of "0 where refused", is refused before it is Cut: worker 1 makes 1 comparison, of 2 with 1.
-  pub limited-wrong :
+  pub limited_wrong :
       limited_by wrong 1 1 ∷ limited_by wrong 1 0 ∷ limited_by (over wrong) 2 0 ∷ limited_by underway 1 1 ∷ limited_by underway 1 0 ∷ [] ≡
       counted wrong (Refused 8) 0 ∷ counted wrong (Refused 8) 0 ∷ counted (over wrong) (Refused 8) 0 ∷ counted underway (Wait 1) 1 ∷ counted underway (Cut 0) 0 ∷ []
   -- Path reading: a finished state's key, the goal's, and one past n; "Nothing is written".
-  pub path-keys :
+  pub path_keys :
       map (read_from 0) (there ∷ wrong_there ∷ with_key there 4 599 ∷ with_key there 5 1 ∷ []) ≡
       (Read 5, 0 ∷ 1 ∷ 2 ∷ 3 ∷ 4 ∷ 9 ∷ []) ∷ (Refused 8, nines) ∷ (Refused 8, nines) ∷ (Read 5, 0 ∷ 1 ∷ 2 ∷ 3 ∷ 4 ∷ 9 ∷ []) ∷ []
   -- 8 comes before 13, 14 and 15, which apply too.
-  pub path-order :
+  pub path_order :
       readings wrong_there ∷ readings there ∷ [] ≡
       ((Refused 8, nines) ∷ (Refused 8, nines) ∷ (Refused 8, nines) ∷ []) ∷ ((Refused 13, nines) ∷ (Refused 14, nines) ∷ (Refused 15, nines) ∷ []) ∷ []
   -- A whole morning is served: its Take and its Bring get their 8.
@@ -195,7 +195,7 @@ keys = record {
   made_keys = refl;
   brought_set = refl;
   brought_lowered = refl;
-  brought-kept = refl;
+  brought_kept = refl;
   brought_past = refl;
   fits_open = refl;
   fits_out = refl;
@@ -205,12 +205,12 @@ keys = record {
   fits_formula = refl;
   fits_largest = refl;
   fits_table = refl;
-  fits-numbers = refl;
+  fits_numbers = refl;
   refused_machine = refl;
   refused_order = refl;
-  limited-wrong = refl;
-  path-keys = refl;
-  path-order = refl;
+  limited_wrong = refl;
+  path_keys = refl;
+  path_order = refl;
   morning_wrong = refl;
   morning_table = refl;
 }

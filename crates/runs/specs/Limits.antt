@@ -75,7 +75,7 @@ pub record Limits : Type 0 where
   -- "it replies Cut, reports the limit and leaves the machine": the goal (1100) with 2 (300), then 2 with none, which is dealt where the limit is 1
   pub cut_machine : map (limited_by (early 1 []) 1) (0 ∷ 1 ∷ []) ≡ counted (early 1 []) (Cut 0) 0 ∷ counted (early 2 (none ∷ 2 ∷ [])) (Took 2) 1 ∷ []
   -- "With a limit smaller than that full count": 3 is out with label 0, and the others depend on it alone. The goal (1800) with 0, 1, 2 and 3; 0 (1500) with 3; 1 (1600) with 0 and 3; 2 (1700) with 0, 1 and 3: 4 + 1 + 2 + 3.
-  pub cut-limits :
+  pub cut_limits :
       map (λ limit. told limit 0 nines (1 ∷ 1 ∷ 1 ∷ 2 ∷ 1 ∷ []) (15 ∷ 16 ∷ 17 ∷ 0 ∷ 18 ∷ []) (none ∷ 3 ∷ [])) (0 ∷ 1 ∷ 9 ∷ 10 ∷ 11 ∷ []) ≡
       (Cut 0, 0) ∷ (Cut 1, 1) ∷ (Cut 9, 9) ∷ (Wait 3, 10) ∷ (Wait 3, 10) ∷ []
   -- "It tries the goal first if open": the goal (500) with 1 (200), of which it is independent, 300 ≤ 300. By key 1 would be dealt, with 0.
@@ -103,11 +103,11 @@ pub record Limits : Type 0 where
   -- With nothing open it names the lowest-numbered out state, and there is no candidate.
   pub wait_none_open : told 0 0 zeros (3 ∷ 2 ∷ 2 ∷ []) (0 ∷ 5 ∷ 3 ∷ []) (none ∷ 2 ∷ 1 ∷ []) ≡ (Wait 1, 0)
   -- "On a task that opening accepted": check 7 is broken by h(2,4) = 1, and then mended by h(2,1) = 1. 1 has label 3 and 2 label 2, both key 300, and 1 depends on 2 at first, but then 100 ≤ 100. The limited Take doesn't look: 1 with none.
-  pub otherwise-took :
+  pub otherwise_took :
       map (λ estimates. beside 100 estimates (3 ∷ 1 ∷ 1 ∷ []) (0 ∷ 3 ∷ 2 ∷ []) []) (h 2 4 1 zeros ∷ from 2 1 ∷ []) ≡
       (Refused 7, Took 2, Took 1, 0) ∷ (Opened, Took 1, Took 1, 0) ∷ []
   -- The same of h(1,4) = 2 and h(1,2) = 2: 1 has label 2, 2 has label 3, and both depend on 3, which is out with label 0. 2 depends on 1, too, at first, but then 100 ≤ 200. 2 (300) with 3; 1 (400) with 2, −100 ≤ 0, and with 3.
-  pub otherwise-wait :
+  pub otherwise_wait :
       map (λ estimates. beside 100 estimates (3 ∷ 1 ∷ 1 ∷ 2 ∷ []) (0 ∷ 2 ∷ 3 ∷ 0 ∷ []) (none ∷ 3 ∷ [])) (h 1 4 2 zeros ∷ from 1 2 ∷ []) ≡
       (Refused 7, Wait 1, Wait 3, 3) ∷ (Opened, Wait 3, Wait 3, 3) ∷ []
   -- "W (pull to the goal) 0 to E": W is 100, as E, and then 200, for which a call is refused with 8, so these are the steps alone. 1 depends on 2, 200 > 100. First 2 (400) with none, before 1 (500); then 1 (500) with none, before 2 (500).
@@ -125,7 +125,7 @@ limits = record {
   nopath_machine = refl;
   wait_machine = refl;
   cut_machine = refl;
-  cut-limits = refl;
+  cut_limits = refl;
   goal_first = refl;
   goal_out = refl;
   others_key = refl;
@@ -137,8 +137,8 @@ limits = record {
   compared_label = refl;
   wait_smallest = refl;
   wait_none_open = refl;
-  otherwise-took = refl;
-  otherwise-wait = refl;
+  otherwise_took = refl;
+  otherwise_wait = refl;
   otherwise_pull = refl;
   cut_code = refl;
 }

@@ -44,7 +44,7 @@ morning events row = morning_of unfit passages zeros events row
 
 pub record Refusals : Type 0 where
   -- "Checked in this order; the first that applies is given": of this task all seven conditions are broken, and then one after the other is mended.
-  pub opening-order :
+  pub opening_order :
       refusal (triple 0 3 101 1000001 1 6 7) ∷
       refusal (triple 2 3 101 1000001 1 6 7) ∷
       refusal (triple 2 0 101 1000001 1 6 7) ∷
@@ -73,14 +73,14 @@ pub record Refusals : Type 0 where
   -- 6 "a passage a to b with h(a,b) above its cost"
   pub bounds_passage : map (λ estimate. refusal (pair 0 1 3 estimate)) (3 ∷ 4 ∷ []) ≡ Opened ∷ Refused 6 ∷ []
   -- Of Take, and of Bring, all of 8, 9, 10 and 11 apply, and then one after the other is mended; "the machine comes back as it went in".
-  pub take-order :
+  pub take_order :
       called (over unfit) (take 2) ∷ called (over midway) (take 2) ∷ called (over midway) (take 0) ∷ called midway (take 0) ∷ [] ≡
       refused (over unfit) 8 ∷ refused (over midway) 9 ∷ refused (over midway) 10 ∷ refused midway 11 ∷ []
-  pub bring-order :
+  pub bring_order :
       called (with_phase unfit 1) (bring 2) ∷ called (with_phase midway 1) (bring 2) ∷ called (with_phase midway 1) (bring 1) ∷ called midway (bring 1) ∷ [] ≡
       refused (with_phase unfit 1) 8 ∷ refused (with_phase midway 1) 9 ∷ refused (with_phase midway 1) 10 ∷ refused midway 11 ∷ []
   -- Order 7: of a limited Take the same, with a count of "0 where refused"; worker 1, who isn't refused, makes 1 comparison, of 2 with 1. And with a limit of 0: who is refused isn't Cut.
-  pub limited-order :
+  pub limited_order :
       limited_by (over unfit) 2 1 ∷ limited_by (over midway) 2 1 ∷ limited_by (over midway) 0 1 ∷ limited_by midway 0 1 ∷ limited_by midway 1 1 ∷ [] ≡
       counted (over unfit) (Refused 8) 0 ∷ counted (over midway) (Refused 9) 0 ∷ counted (over midway) (Refused 10) 0 ∷ counted midway (Refused 11) 0 ∷ counted midway (Wait 1) 1 ∷ []
   pub limited_cut :
@@ -89,7 +89,7 @@ pub record Refusals : Type 0 where
   -- 12 "as in step 4 above", to which no machine comes
   pub take_stuck : act midway (hands_of midway) 1 Stuck ≡ refused midway 12
   -- Fits: "conditions 1 to 4 hold of the machine's numbers and the lent slices". A passage slice of 17 numbers; goal 5 of 5; W 101; a cost of 1,000,001; none of them.
-  pub fits-task :
+  pub fits_task :
       told_in (task 5 2 0 4 100 100 (front 17 passages) zeros) ∷
       told_in (task 5 2 0 5 100 100 passages zeros) ∷
       told_in (task 5 2 0 4 101 100 passages zeros) ∷
@@ -105,15 +105,15 @@ pub record Refusals : Type 0 where
   -- "labels of states below n at most 255,000,000"
   pub fits_labels : map told (with_label midway 4 255000000 ∷ with_label midway 4 255000001 ∷ with_label midway 5 255000001 ∷ []) ≡ Wait 1 ∷ Refused 8 ∷ Wait 1 ∷ []
   -- "each worker below k holds nothing or an out state". Worker 1 holds an out state; a finished one; an open one; 5, which isn't below n. Worker 2, who isn't below k, holds a finished one.
-  pub fits-workers :
+  pub fits_workers :
       map told (with_held (with_mark midway 2 2) 1 2 ∷ with_held midway 1 0 ∷ with_held midway 1 2 ∷ with_held (with_mark midway 5 2) 1 5 ∷ with_held midway 2 0 ∷ []) ≡
       Refused 11 ∷ Refused 8 ∷ Refused 8 ∷ Refused 8 ∷ Wait 1 ∷ []
   -- "each out state is held by exactly one worker below k". State 1 is held by both; by none; by worker 2, who isn't below k. State 5, which isn't below n, is out.
-  pub fits-held :
+  pub fits_held :
       map told (with_held midway 1 1 ∷ with_held midway 0 none ∷ with_held (with_held midway 0 none) 2 1 ∷ with_mark midway 5 2 ∷ []) ≡
       Refused 8 ∷ Refused 8 ∷ Refused 8 ∷ Wait 1 ∷ []
   -- Of path reading 8, 13 and 14 apply, and then one after the other is mended; "Nothing is written". 15 "a place past the end leaves none"
-  pub path-order :
+  pub path_order :
       map (read_from 7) (with_mark (with_phase astray 0) 4 4 ∷ with_phase astray 0 ∷ astray ∷ arrived ∷ []) ≡
       (Refused 8, nines) ∷ (Refused 13, nines) ∷ (Refused 14, nines) ∷ (Refused 15, nines) ∷ []
   -- 14 "a passage number isn't one, doesn't end at the state, label isn't near label + cost": 6 of 6; 0→2, of cost 5, for state 3, whose label is 5; 7, with its key, for 5 + 1
@@ -136,7 +136,7 @@ pub record Refusals : Type 0 where
 pub refusals : Refusals
 unfolding definitions
 refusals = record {
-  opening-order = refl;
+  opening_order = refl;
   bounds_n = refl;
   bounds_k = refl;
   bounds_passages = refl;
@@ -149,19 +149,19 @@ refusals = record {
   bounds_cost = refl;
   bounds_estimate = refl;
   bounds_passage = refl;
-  take-order = refl;
-  bring-order = refl;
-  limited-order = refl;
+  take_order = refl;
+  bring_order = refl;
+  limited_order = refl;
   limited_cut = refl;
   take_stuck = refl;
-  fits-task = refl;
+  fits_task = refl;
   fits_estimates = refl;
   fits_marks = refl;
   fits_phase = refl;
   fits_labels = refl;
-  fits-workers = refl;
-  fits-held = refl;
-  path-order = refl;
+  fits_workers = refl;
+  fits_held = refl;
+  path_order = refl;
   path_links = refl;
   path_round = refl;
   path_start = refl;
