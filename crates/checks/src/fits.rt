@@ -7,6 +7,7 @@ ghost use Rattle.checks.specs.Fits.{marks_right, labels_right, keys_right, worke
 ghost use Rattle.checks.specs.Laws.{Counted};
 
 // Each state below n has one of the marks.
+#[tactic(auto, using(crate::proofs::Loops::goes_on), unfolding(crate::specs::Fits::marks_right))]
 pub fn marks_right(mark: &[u8; 256], n: usize) -> bool
     requires { n ≤ 256 }
     ensures { result ≡ marks_right mark.now n }
@@ -21,6 +22,7 @@ pub fn marks_right(mark: &[u8; 256], n: usize) -> bool
 }
 
 // No state below n has a label that is too high.
+#[tactic(auto, using(crate::proofs::Loops::goes_on), unfolding(crate::specs::Fits::labels_right))]
 pub fn labels_right(label: &[u32; 256], n: usize) -> bool
     requires { n ≤ 256 }
     ensures { result ≡ labels_right label.now n }
@@ -54,6 +56,7 @@ pub fn stored_key<'a>(
 }
 
 // Each state below n has that stored.
+#[tactic(auto, using(crate::proofs::Loops::goes_on), unfolding(crate::specs::Fits::keys_right))]
 pub fn keys_right<'a>(
     mark: &'a [u8; 256],
     label: &'a [u32; 256],
@@ -91,6 +94,7 @@ pub fn worker_right(mark: &[u8; 256], n: usize, held: u16) -> bool
 }
 
 // Each worker below k does.
+#[tactic(auto, using(crate::proofs::Loops::first_ends), unfolding(crate::specs::Fits::workers_right))]
 pub fn workers_right<'a>(mark: &'a [u8; 256], held: &'a [u16; 32], n: usize, k: usize) -> bool
     requires { (n ≤ 256) × (k ≤ 32) }
     ensures { result ≡ workers_right mark.now held.now n k }
@@ -119,6 +123,7 @@ pub fn holder_counts(held: &[u16; 32], k: usize) -> [u8; 256]
 }
 
 // Each out state is held by exactly one worker below k.
+#[tactic(auto, using(crate::proofs::Loops::first_ends), unfolding(crate::specs::Fits::held_once))]
 pub fn held_once<'a>(mark: &'a [u8; 256], held: &'a [u16; 32], n: usize, k: usize) -> bool
     requires { (n ≤ 256) × (k ≤ 32) }
     ensures { result ≡ held_once mark.now held.now n k }

@@ -22,6 +22,7 @@ ghost use Rattle.checks.specs.Opening.{
 use rule::refusals;
 
 // 1: the sizes, of the task and of the two slices.
+#[tactic(auto, unfolding(crate::specs::Opening::sizes_right))]
 pub fn sizes_right(n: usize, k: usize, passages: usize, estimates: usize) -> bool
     ensures { result ≡ sizes_right n k passages estimates }
 {
@@ -47,6 +48,7 @@ pub fn sizes_right(n: usize, k: usize, passages: usize, estimates: usize) -> boo
 }
 
 // 2: start and goal are states.
+#[tactic(auto, unfolding(crate::specs::Opening::ends_right))]
 pub fn ends_right(n: usize, start: usize, goal: usize) -> bool
     ensures { result ≡ ends_right n start goal }
 {
@@ -57,6 +59,7 @@ pub fn ends_right(n: usize, start: usize, goal: usize) -> bool
 }
 
 // 3: the weights.
+#[tactic(auto, unfolding(crate::specs::Opening::weights_right))]
 pub fn weights_right(pull: u16, excess: u16) -> bool
     ensures { result ≡ weights_right pull excess }
 {
@@ -70,6 +73,7 @@ pub fn weights_right(pull: u16, excess: u16) -> bool
 }
 
 // 4: both ends of each passage are states, and no cost is too high, but for a blocked passage's.
+#[tactic(auto, using(crate::proofs::Loops::first_ends), unfolding(crate::specs::Opening::passages_right))]
 pub fn passages_right(passages: &[u32], n: usize) -> bool
     ensures { result ≡ passages_right passages.now n }
 {
@@ -91,6 +95,7 @@ pub fn passages_right(passages: &[u32], n: usize) -> bool
 }
 
 // One row of 5: no estimate is too large, and the one on the diagonal is 0.
+#[tactic(auto, using(crate::proofs::Loops::first_ends))]
 pub fn row_right(estimates: &[u32], n: usize, a: usize) -> bool
     requires { WholeTable estimates.now n × (a < n) }
     ensures { result ≡ row_right estimates.now n a }
@@ -104,6 +109,7 @@ pub fn row_right(estimates: &[u32], n: usize, a: usize) -> bool
 }
 
 // 5: every row.
+#[tactic(auto, using(crate::proofs::Loops::first_ends), unfolding(crate::specs::Opening::estimates_right))]
 pub fn estimates_right(estimates: &[u32], n: usize) -> bool
     requires { WholeTable estimates.now n }
     ensures { result ≡ estimates_right estimates.now n }
@@ -117,6 +123,7 @@ pub fn estimates_right(estimates: &[u32], n: usize) -> bool
 }
 
 // 6: no estimate is above the cost of a passage that isn't blocked.
+#[tactic(auto, using(crate::proofs::Loops::first_ends), unfolding(crate::specs::Opening::passages_bound))]
 pub fn passages_bound(passages: &[u32], estimates: &[u32], n: usize) -> bool
     requires { WholeTable estimates.now n × (passages_right passages.now n ≡ true) }
     ensures { result ≡ passages_bound passages.now estimates.now n }
@@ -136,6 +143,7 @@ pub fn passages_bound(passages: &[u32], estimates: &[u32], n: usize) -> bool
 }
 
 // The detours from a by b, of 7: no estimate from a is above the two by way of b.
+#[tactic(auto, using(crate::proofs::Loops::goes_on), unfolding(crate::specs::Opening::detours_by))]
 pub fn detours_by(estimates: &[u32], n: usize, a: usize, b: usize) -> bool
     requires { (WholeTable estimates.now n × (estimates_right estimates.now n ≡ true)) × ((a < n) × (b < n)) }
     ensures { result ≡ detours_by estimates.now n a b }
@@ -152,6 +160,7 @@ pub fn detours_by(estimates: &[u32], n: usize, a: usize, b: usize) -> bool
 }
 
 // The largest estimate from a.
+#[tactic(auto, using(laws::specs::LargestLaws::largest_zero, laws::specs::LargestLaws::largest_up, laws::specs::LargestLaws::largest_kept))]
 pub fn largest_from(estimates: &[u32], n: usize, a: usize) -> u32
     requires { WholeTable estimates.now n × (a < n) }
     ensures { result ≡ largest (estimate estimates.now n a) n }
@@ -167,6 +176,7 @@ pub fn largest_from(estimates: &[u32], n: usize, a: usize) -> u32
 }
 
 // All detours from a, of 7.
+#[tactic(auto, using(crate::proofs::Loops::first_ends), unfolding(crate::specs::Opening::detours_from))]
 pub fn detours_from(estimates: &[u32], n: usize, a: usize) -> bool
     requires { (WholeTable estimates.now n × (estimates_right estimates.now n ≡ true)) × (a < n) }
     ensures { result ≡ detours_from estimates.now n a }
@@ -186,6 +196,7 @@ pub fn detours_from(estimates: &[u32], n: usize, a: usize) -> bool
 }
 
 // 7: all detours.
+#[tactic(auto, using(crate::proofs::Loops::first_ends), unfolding(crate::specs::Opening::detours_bound))]
 pub fn detours_bound(estimates: &[u32], n: usize) -> bool
     requires { WholeTable estimates.now n × (estimates_right estimates.now n ≡ true) }
     ensures { result ≡ detours_bound estimates.now n }
@@ -199,6 +210,7 @@ pub fn detours_bound(estimates: &[u32], n: usize) -> bool
 }
 
 // The first of 1 to 4 that applies to a task, or 0. These are checked at each call.
+#[tactic(auto, unfolding(crate::specs::Opening::early_fault))]
 pub fn early_fault(
     n: usize,
     k: usize,
@@ -227,6 +239,7 @@ pub fn early_fault(
 }
 
 // The first of 1 to 7 that applies to a task, or 0. All are checked at opening alone.
+#[tactic(auto, using(crate::specs::Laws::fault_early, crate::specs::Laws::fault_late))]
 pub fn fault(
     n: usize,
     k: usize,

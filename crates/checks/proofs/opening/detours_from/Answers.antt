@@ -1,13 +1,10 @@
 -- A state that is passed over has no detour that is too short, and the first other state that has one settles it.
 use Rattle.std.proofs.Common.{sym, arith}
-use Rattle.laws.specs.All.{all_zero, all_more, all_stop, all_end}
+use Rattle.laws.specs.All.{all_more, all_stop}
 use Rattle.checks.specs.Opening.{detours_from}
 use Rattle.checks.specs.Laws.{detours_own, detours_over}
 use Rattle.checks.proofs.opening.detours_from.Goals as goal
 use Rattle.checks.proofs.opening.detours_from.Goals.{then-b-a+then-estimate-most+else-not-detours_by, then-b-a+else-estimate-most, else-b-a}
-
-pub loop-b-init : goal.loop-b-init
-loop-b-init c = all_zero _
 
 pub returns-then-not-detours_by : goal.returns-then-not-detours_by
 unfolding detours_from
@@ -21,7 +18,3 @@ loop-b-preserved c =
       | then-b-a+else-estimate-most w ↦ detours_over _ _ _ c.loop-b.b (omega (arith, c.largest_from-most.ensures, w.estimate.ensures, w.if-estimate-most.false))
       | else-b-a w ↦ detours_own _ _ _ c.loop-b.b w.if-b-a.false
     ])
-
-pub returns : goal.returns
-unfolding detours_from
-returns c = all_end _ c.loop-b.b _ c.loop-b.invariant c.loop-b.auto.b-end c.loop-b-test.false
