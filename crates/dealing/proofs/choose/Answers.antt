@@ -15,7 +15,7 @@ candidates-preserved-then-mark-s-ne-OPEN c = (omega arith, leads_shut _ _ _ _ _ 
 pub candidates-preserved-then-key_s-least : goal.candidates-preserved-then-key_s-least
 candidates-preserved-then-key_s-least c =
     let its_key = c.requires.0.at _ c.candidates-test.true (eq-eqb _ waiting c.if-mark-s-ne-OPEN.false) in
-    (omega arith, leads_lost _ _ _ _ _ _ _ _ _ c.candidates.invariant.1 c.if-best-n.true (rw its_key at c.if-key_s-least.true))
+    (omega arith, leads_lost _ _ _ _ _ _ _ _ _ c.candidates.invariant.1 c.if-best-n.true (omega arith))
 
 pub loop-t-init : goal.loop-t-init
 loop-t-init c = (c.candidates.invariant.1, first_zero _)
@@ -24,7 +24,7 @@ pub candidates-preserved-then-key_s-ahead : goal.candidates-preserved-then-key_s
 candidates-preserved-then-key_s-ahead c =
     let its_key = c.requires.0.at _ c.candidates-test.true (eq-eqb _ waiting c.if-mark-s-ne-OPEN.false) in
     let held = depends_other _ _ _ _ true c.if-t-s.true c.estimate-h.ensures (sym c.if-holds_back.true ∙ c.holds_back.ensures) in
-    (omega arith, leads_behind _ _ _ _ _ _ _ _ _ c.loop-t.invariant.0 _ c.loop-t.invariant.1 held c.loop-t-test.true c.if-front-n.true (rw its_key at c.if-key_s-ahead.true))
+    (omega arith, leads_behind _ _ _ _ _ _ _ _ _ c.loop-t.invariant.0 _ c.loop-t.invariant.1 held c.loop-t-test.true c.if-front-n.true (omega arith))
 
 pub candidates-preserved-else-key_s-ahead : goal.candidates-preserved-else-key_s-ahead
 candidates-preserved-else-key_s-ahead c =

@@ -14,7 +14,9 @@ goal_not c =
     ]
 
 -- past the second: something is open or out
-busy : (c : After-choose-choice) → (not (any_open (board c.args.n c.args.excess c.args.estimates.now c.args.mark.now c.args.label.now)) && not (any_out (board c.args.n c.args.excess c.args.estimates.now c.args.mark.now c.args.label.now))) ≡ false
+busy : (c : After-choose-choice)
+    → let b = board c.args.n c.args.excess c.args.estimates.now c.args.mark.now c.args.label.now in
+    (not (any_open b) && not (any_out b)) ≡ false
 busy c =
     elim c.if-open-n.branch [
       | then-open-n+else-out-n w ↦ busy_out _ (out_by _ _ c.first_marked-out.ensures ∙ lt-ltb _ _ w.if-out-n.false)
@@ -26,16 +28,29 @@ returns-then-first-n c = decides_found _ _ _ (safe_open _ _ c.if-mark-goal-eq-OP
 
 pub returns-then-out-n : goal.returns-then-out-n
 returns-then-out-n c =
-    decides_none _ _ _ (goal_not (goal.at.returns-then-out-n c).After-first_marked-out) (open_by _ _ c.first_marked-open.ensures ∙ le-ltb _ _ c.if-open-n.true) (out_by _ _ c.first_marked-out.ensures ∙ le-ltb _ _ c.if-out-n.true)
+    let p = goal.at.returns-then-out-n c in
+    decides_none _ _ _ (goal_not p.After-first_marked-out)
+    (open_by _ _ c.first_marked-open.ensures ∙ le-ltb _ _ c.if-open-n.true)
+    (out_by _ _ c.first_marked-out.ensures ∙ le-ltb _ _ c.if-out-n.true)
 
 pub returns-then-out-n-2 : goal.returns-then-out-n-2
-returns-then-out-n-2 c = decides_wait _ _ _ (goal_not (goal.at.returns-then-out-n-2 c).After-first_marked-out) (busy (goal.at.returns-then-out-n-2 c).After-choose-choice) _ c.in-Stopped.ensures (out_by _ _ c.first_marked-out.ensures ∙ lt-ltb _ _ c.if-out-n-2.true)
+returns-then-out-n-2 c =
+    let p = goal.at.returns-then-out-n-2 c in
+    decides_wait _ _ _ (goal_not p.After-first_marked-out) (busy p.After-choose-choice) _
+    c.in-Stopped.ensures (out_by _ _ c.first_marked-out.ensures ∙ lt-ltb _ _ c.if-out-n-2.true)
 
 pub returns-in-Safe : goal.returns-in-Safe
-returns-in-Safe c = decides_deal _ _ _ (goal_not (goal.at.returns-in-Safe c).After-first_marked-out) (busy (goal.at.returns-in-Safe c).After-choose-choice) _ c.in-Safe.ensures
+returns-in-Safe c =
+    let p = goal.at.returns-in-Safe c in
+    decides_deal _ _ _ (goal_not p.After-first_marked-out) (busy p.After-choose-choice) _ c.in-Safe.ensures
 
 pub returns-else-out-n-2 : goal.returns-else-out-n-2
-returns-else-out-n-2 c = decides_stuck _ _ _ (goal_not (goal.at.returns-else-out-n-2 c).After-first_marked-out) (busy (goal.at.returns-else-out-n-2 c).After-choose-choice) _ c.in-Stopped.ensures (out_by _ _ c.first_marked-out.ensures ∙ le-ltb _ _ c.if-out-n-2.false)
+returns-else-out-n-2 c =
+    let p = goal.at.returns-else-out-n-2 c in
+    decides_stuck _ _ _ (goal_not p.After-first_marked-out) (busy p.After-choose-choice) _
+    c.in-Stopped.ensures (out_by _ _ c.first_marked-out.ensures ∙ le-ltb _ _ c.if-out-n-2.false)
 
 pub returns-in-NoneOpen : goal.returns-in-NoneOpen
-returns-in-NoneOpen c = decides_quiet _ _ _ (goal_not (goal.at.returns-in-NoneOpen c).After-first_marked-out) (busy (goal.at.returns-in-NoneOpen c).After-choose-choice) c.in-NoneOpen.ensures _ c.first_marked-out.ensures
+returns-in-NoneOpen c =
+    let p = goal.at.returns-in-NoneOpen c in
+    decides_quiet _ _ _ (goal_not p.After-first_marked-out) (busy p.After-choose-choice) c.in-NoneOpen.ensures _ c.first_marked-out.ensures

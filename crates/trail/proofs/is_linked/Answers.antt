@@ -19,5 +19,13 @@ returns-then-far-s c =
 pub returns : goal.returns
 unfolding is_linked
 returns c =
-    rw (← c.wide-i.ensures, lt-ltb _ _ c.if-i-passages.false, sym c.is_clear.ensures ∙ c.if-not-is_clear.false, ← c.far.ensures, eq-eqb _ _ c.if-far-s.false, ← c.near-before.ensures, ← c.cost.ensures)
+    rw (
+      ← c.wide-i.ensures,
+      lt-ltb _ _ c.if-i-passages.false,
+      sym c.is_clear.ensures ∙ c.if-not-is_clear.false,
+      ← c.far.ensures,
+      eq-eqb _ _ c.if-far-s.false,
+      ← c.near-before.ensures,
+      ← c.cost.ensures,
+    )
     c.adds_up.ensures

@@ -30,7 +30,13 @@ states-preserved-then-mark-t-ne-OPEN c = (
 )
 
 pub states-preserved-then-best-n : goal.states-preserved-then-best-n
-states-preserved-then-best-n c = (leading_lost _ _ _ _ _ _ _ _ _ _ c.states.invariant.0 (omega arith) c.if-best-n.true c.if-key_t-least.true, c.states.invariant.1, c.states.invariant.2, c.states.invariant.3, c.states.invariant.4)
+states-preserved-then-best-n c = (
+  leading_lost _ _ _ _ _ _ _ _ _ _ c.states.invariant.0 (omega arith) c.if-best-n.true c.if-key_t-least.true,
+  c.states.invariant.1,
+  c.states.invariant.2,
+  c.states.invariant.3,
+  c.states.invariant.4,
+)
 
 pub states-preserved-then-not-comes_after : goal.states-preserved-then-not-comes_after
 states-preserved-then-not-comes_after c = (
@@ -43,7 +49,13 @@ states-preserved-then-not-comes_after c = (
 )
 
 pub states-preserved-then-t-goal : goal.states-preserved-then-t-goal
-states-preserved-then-t-goal c = (leading_skip _ _ _ _ _ _ _ _ _ _ c.states.invariant.0 (omega arith) (comes_goal _ _ _ _ _ _ c.if-t-goal.true), c.states.invariant.1, c.states.invariant.2, c.states.invariant.3, c.states.invariant.4)
+states-preserved-then-t-goal c = (
+  leading_skip _ _ _ _ _ _ _ _ _ _ c.states.invariant.0 (omega arith) (comes_goal _ _ _ _ _ _ c.if-t-goal.true),
+  c.states.invariant.1,
+  c.states.invariant.2,
+  c.states.invariant.3,
+  c.states.invariant.4,
+)
 
 pub states-preserved : goal.states-preserved
 states-preserved c = (

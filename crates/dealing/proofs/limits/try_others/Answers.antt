@@ -13,7 +13,9 @@ module _ (c : In-Ended) where
   other : Other c.args.goal (board c.args.n c.args.excess c.args.estimates.now c.args.mark.now c.args.label.now) c.loop-s.s
   other = trying_other _ _ _ _ _ _ _ _ _ c.loop-s.invariant.0 c.loop-s-test.true
 
-  says : (c.in-Ended.t ≡ stops_at c.args.goal c.args.pull (board c.args.n c.args.excess c.args.estimates.now c.args.mark.now c.args.label.now) c.loop-s.s) × (c.in-Ended.count ≡ comparisons c.args.goal c.args.pull (board c.args.n c.args.excess c.args.estimates.now c.args.mark.now c.args.label.now) c.loop-s.s)
+  says :
+      let b = board c.args.n c.args.excess c.args.estimates.now c.args.mark.now c.args.label.now in
+      (c.in-Ended.t ≡ stops_at c.args.goal c.args.pull b c.loop-s.s) × (c.in-Ended.count ≡ comparisons c.args.goal c.args.pull b c.loop-s.s)
       × (c.in-Ended.count ≤ c.args.limit - c.loop-s.made)
   says = ended_says _ _ _ _ c.requires.0.keyed _ other.below other.waits _ _ _ c.in-Ended.ensures
 
@@ -24,11 +26,13 @@ its_leads c =
       | then-s-first w ↦ w.leads-is ∙ w.block_leads-leads.ensures
       | else-s-first w ↦
           w.leads-is
-          ∙ led_renewed _ _ _ _ _ c.requires.1.states _ _ (⊎_elim (λ q. absurd (w.if-s-first.false q)) (λ q. q) c.loop-s.invariant.1) c.loop-s-test.true w.lead.ensures
+          ∙ led_renewed _ _ _ _ _ c.requires.1.states _ _
+          (⊎_elim (λ q. absurd (w.if-s-first.false q)) (λ q. q) c.loop-s.invariant.1) c.loop-s-test.true w.lead.ensures
     ]
 
 -- the next candidate is the board's
-its_next : (c : After-foremost_lead-s) → c.foremost_lead-s.result ≡ next c.args.goal c.args.pull (board c.args.n c.args.excess c.args.estimates.now c.args.mark.now c.args.label.now) c.loop-s.s
+its_next : (c : After-foremost_lead-s)
+    → c.foremost_lead-s.result ≡ next c.args.goal c.args.pull (board c.args.n c.args.excess c.args.estimates.now c.args.mark.now c.args.label.now) c.loop-s.s
 its_next c =
     led_next _ _ _ _ _ c.requires.1.states _ (its_leads c) _ c.foremost_lead-s.ensures
     ∙ next_keyed _ _ _ _ c.requires.0.keyed _ (inr (trying_other _ _ _ _ _ _ _ _ _ c.loop-s.invariant.0 c.loop-s-test.true))
@@ -36,7 +40,8 @@ its_next c =
 pub returns-in_default : goal.returns-in_default
 returns-in_default c =
     let o = trying_other _ _ _ _ _ _ _ _ _ c.loop-s.invariant.0 c.loop-s-test.true in
-    trying_cut _ _ _ _ _ _ _ _ _ c.loop-s.invariant.0 c.loop-s-test.true (cut_says _ _ _ _ c.requires.0.keyed _ o.below o.waits _ c.in_default.ensures)
+    trying_cut _ _ _ _ _ _ _ _ _ c.loop-s.invariant.0 c.loop-s-test.true
+    (cut_says _ _ _ _ c.requires.0.keyed _ o.below o.waits _ c.in_default.ensures)
 
 pub overflow_add-made : goal.overflow_add-made
 overflow_add-made c =
@@ -44,7 +49,9 @@ overflow_add-made c =
     search rules
 
 pub returns-then-t-n : goal.returns-then-t-n
-returns-then-t-n c = trying_passed _ _ _ _ _ _ _ _ _ c.loop-s.invariant.0 c.loop-s-test.true _ _ (says (goal.at.returns-then-t-n c).In-Ended) c.if-t-n.true
+returns-then-t-n c =
+    trying_passed _ _ _ _ _ _ _ _ _ c.loop-s.invariant.0 c.loop-s-test.true _ _
+    (says (goal.at.returns-then-t-n c).In-Ended) c.if-t-n.true
 
 pub loop-s-smaller : goal.loop-s-smaller
 loop-s-smaller c = rw (its_next (goal.at.loop-s-smaller c).After-foremost_lead-s) (rank_next _ _ _ _ (other (goal.at.loop-s-smaller c).In-Ended))
