@@ -32,6 +32,7 @@ pub fn blank() -> Machine
 }
 
 impl Machine {
+    #[tactic(auto, unfolding(crate::specs::Opening::opening_of, crate::specs::Opening::opened_machine))]
     pub fn opening(
         n: usize,
         k: usize,
