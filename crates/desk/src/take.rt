@@ -10,7 +10,6 @@ use rule::refusals;
 impl Machine {
     // Take, where conditions 1 to 4 and the keys were looked at before: `sound` says whether they hold.
     // The machine is written where it stands, and handed back once: a function of its own for a step would copy it in and out.
-    #[tactic(auto, unfolding(crate::specs::Take::take_of, crate::specs::Take::take_step))]
     pub fn take_checked(
         mut self,
         sound: bool,
