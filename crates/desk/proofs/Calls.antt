@@ -1,6 +1,7 @@
 -- What a worker's call knows past the ladder of 8, 9 and 10, where the first refusal that the code found is none.
 use Rattle.std.proofs.Common.{◌≡◌, ◌∙◌, ap, ℕ, List, Bool, ◌&&◌, ◌<◌, arith, eq-eqb}
 use Rattle.std.proofs.Math.Path.{subst⁻¹}
+use Rattle.rule.specs.Task.{passage_count, far}
 use Rattle.rule.specs.Marks.{none}
 use Rattle.dealing.specs.declared.Decision.{Decision}
 use Rattle.dealing.specs.Decision.{decision}
@@ -34,3 +35,11 @@ module _ (m : Machine) (passages estimates : List ℕ) (worker : ℕ) (sound : B
   -- the state that the worker holds can be brought
   pub carries : (held_by (hands_of m) worker ≡ none → ⊥) → (state : ℕ) → state ≡ held_by (hands_of m) worker → Carried m passages estimates state
   carries h state e = subst⁻¹ (λ (x : ℕ). Carried m passages estimates x) e (carried m (hands_of m) passages estimates worker facts let_in.worker_in h)
+
+-- the far end of a passage is a state, with a place in the rows
+module _ (m : Machine) (passages estimates : List ℕ) (state : ℕ) (k : Carried m passages estimates state) (i end : ℕ) (l : i < passage_count passages) (e : end ≡ far passages i) where
+  pub far_state : end < m.n
+  far_state = rw e (k.fars i l)
+
+  pub far_in : end < 256
+  far_in = omega (arith, far_state, k.table.states)
