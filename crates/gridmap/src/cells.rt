@@ -7,6 +7,7 @@ ghost use Rattle.gridmap.specs.Laws.{map_with, Small, row_right, rows_of, column
 use super::{Head, header};
 
 // Whether a byte is an open cell.
+#[tactic(auto, unfolding(crate::specs::Map::is_open))]
 pub fn is_open(b: u8) -> bool
     ensures { result ≡ is_open b }
 {
@@ -17,6 +18,7 @@ pub fn is_open(b: u8) -> bool
 }
 
 // Whether a byte is a closed cell.
+#[tactic(auto, unfolding(crate::specs::Map::is_closed))]
 pub fn is_closed(b: u8) -> bool
     ensures { result ≡ is_closed b }
 {
@@ -30,6 +32,7 @@ pub fn is_closed(b: u8) -> bool
 }
 
 // Whether a row is so many cells and a line feed.
+#[tactic(auto, unfolding(crate::specs::Laws::row_right))]
 pub fn row_right(text: &[u8], h: Head, row: usize) -> bool
     requires { Small h × (row < h.height) }
     ensures { result ≡ row_right (map_with text.now h) row }
@@ -47,6 +50,7 @@ pub fn row_right(text: &[u8], h: Head, row: usize) -> bool
 }
 
 // Whether each row is right, and nothing comes after the last.
+#[tactic(auto, unfolding(crate::specs::Map::rows_right))]
 pub fn rows_right(text: &[u8], h: Head) -> bool
     requires { Small h }
     ensures { result ≡ rows_right (map_with text.now h) }
@@ -63,6 +67,7 @@ pub fn rows_right(text: &[u8], h: Head) -> bool
 }
 
 // How many open cells come before a place.
+#[tactic(auto, unfolding(crate::specs::Map::state_of))]
 pub fn count_before(text: &[u8], h: Head, place: usize) -> usize
     requires { Small h × (place ≤ places (map_with text.now h)) }
     ensures { (result ≡ state_of (map_with text.now h) place) × (result ≤ place) }
@@ -77,6 +82,7 @@ pub fn count_before(text: &[u8], h: Head, place: usize) -> usize
 }
 
 // How many cells are open.
+#[tactic(auto, unfolding(crate::specs::Map::state_count, crate::specs::Map::state_of))]
 pub fn count_open(text: &[u8], h: Head) -> usize
     requires { Small h }
     ensures { result ≡ state_count (map_with text.now h) }
@@ -85,6 +91,7 @@ pub fn count_open(text: &[u8], h: Head) -> usize
 }
 
 // The places of the open cells, in their order, and how many they are.
+#[tactic(auto, unfolding(crate::specs::Map::cells, crate::specs::Map::state_count))]
 pub fn put_cells(text: &[u8], h: Head, cell: &mut [u32]) -> usize
     requires { Small h × (state_count (map_with text.now h) ≤ length cell.old) }
     ensures { (result ≡ state_count (map_with text.now h)) × (cell.new ≡ overlaid 0 (cells (map_with text.now h)) cell.old) }

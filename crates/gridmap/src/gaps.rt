@@ -6,6 +6,7 @@ ghost use Rattle.gridmap.specs.Estimates.{gap, octile};
 ghost use Rattle.gridmap.specs.Laws.{apart, table_of};
 
 // How far two coordinates are apart.
+#[tactic(auto, unfolding(crate::specs::Estimates::gap))]
 pub fn gap(a: u16, b: u16) -> u16
     ensures { result ≡ gap a b }
 {
@@ -16,6 +17,7 @@ pub fn gap(a: u16, b: u16) -> u16
 }
 
 // 1,000 times the larger plus 414 times the smaller.
+#[tactic(auto, unfolding(crate::specs::Estimates::octile))]
 pub fn octile(a: u16, b: u16) -> u32
     ensures { result ≡ octile a b }
 {
