@@ -59,6 +59,7 @@ pub fn fill(rt: &HostRuntime, buf: &mut [u8]) -> Filled
             }
         }
     }
+    let _ = eprintln!(rt; "deskrun: cannot read: too many tries");
     Filled::Failed
 }
 
@@ -93,6 +94,7 @@ pub fn drain(rt: &HostRuntime, buf: &[u8]) -> Drained {
             }
         }
     }
+    let _ = eprintln!(rt; "deskrun: cannot write: too many tries");
     Drained::Failed
 }
 
