@@ -1,7 +1,7 @@
 -- A buffer filled from a place on, front to back: lists by their elements, and lists written over a buffer one after the other.
 -- Assumes nothing.
 use Rattle.std.specs.Prelude.{◌≡◌, refl, List, [], ◌∷◌, ◌++◌, ℕ, zero, suc, ◌+◌, ◌≤◌, ◌<◌, length, get_or, set, take, drop}
-use Rattle.std.proofs.Common.{sym, ap, ◌∙◌, append-nil, append_assoc, add-zero, add_assoc, zero-add, add-one, arith, length-append, length-take, length-drop, length-set, drop_of_length-le, take-append-drop, take_all, take_at, drop_at, drop-drop, ext_get_or, get_or-set_same, get_or-set_other}
+use Rattle.std.proofs.Common.{sym, ap, ◌∙◌, append-nil, append_assoc, add-zero, add_assoc, zero-add, add-one, arith, length-append, length-take, length-drop, length-set, drop_of_length-le, take-append-drop, take_at, drop_at, drop-drop, ext_get_or, get_or-set_same, get_or-set_other}
 use Rattle.std.proofs.Math.Decide.{ℕ_discrete}
 use Rattle.std.proofs.Math.ListN.{get_or-append}
 use Rattle.std.proofs.lemmas.List.{get_or_at, set_split}
