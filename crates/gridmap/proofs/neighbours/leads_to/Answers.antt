@@ -23,9 +23,9 @@ overflow_add-y c = let e : Free (map_with c.args.text.now c.args.h) c.row_to-y.r
 
 pub state_of-requires : goal.state_of-requires
 state_of-requires c = (
-      held_rise (map_with c.args.text.now c.args.h) _ c.requires.1.0,
-      end_found _ c.args.h _ _ c.requires.1.1.0 c.args.j c.requires.1.1.1.0 c.requires.1.1.1.1 _ c.row_to-y.ensures _ c.column_to-x.ensures _ c.requires.1.0,
-    )
+  held_rise (map_with c.args.text.now c.args.h) _ c.requires.1.0,
+  end_found _ c.args.h _ _ c.requires.1.1.0 c.args.j c.requires.1.1.1.0 c.requires.1.1.1.1 _ c.row_to-y.ensures _ c.column_to-x.ensures _ c.requires.1.0,
+)
 
 pub returns : goal.returns
 returns c = end_is _ c.args.h _ _ c.requires.1.1.0 c.args.j c.requires.1.1.1.0 c.requires.1.1.1.1 _ c.row_to-y.ensures _ c.column_to-x.ensures _ c.requires.1.0 _ c.state_of.ensures
