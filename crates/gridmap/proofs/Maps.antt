@@ -7,7 +7,7 @@ use Rattle.gridmap.specs.Map.{map_of, state_count}
 use Rattle.gridmap.specs.Reading.{map_fault}
 use Rattle.gridmap.specs.Laws.{map_with, Small}
 use Rattle.gridmap.specs.HeadLaws.{small_head}
-use Rattle.gridmap.specs.ReadingLaws.{IsMap, map_is}
+use Rattle.gridmap.specs.ReadingLaws.{map_is}
 
 module _ (text : List ℕ) (fault : ℕ) (e : fault ≡ map_fault text) (z : fault ≡ 0) where
   pub sound : map_fault text ≡ 0

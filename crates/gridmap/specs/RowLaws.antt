@@ -1,5 +1,5 @@
 -- The states' cells, rows and columns as lists that the code holds: what stands in them, the neighbours of the cells, and a search by halving.
-use Rattle.std.specs.Prelude.{◌≡◌, Bool, true, List, ℕ, ◌+◌, ◌*◌, ◌-◌, ◌/◌, ◌%◌, ◌≤◌, ◌<◌, length, get_or, take}
+use Rattle.std.specs.Prelude.{◌≡◌, Bool, true, List, ℕ, ◌+◌, ◌*◌, ◌/◌, ◌%◌, ◌≤◌, ◌<◌, length, get_or, take}
 use Rattle.std.proofs.Common.{sym, ◌∙◌, true≢false, arith, length-append, eqb-true, eq-eqb}
 use Rattle.std.proofs.Math.Decide.{dec_le}
 use Rattle.laws.specs.First.{first, first_passes, first_before}

@@ -29,7 +29,7 @@ pub fn octile(a: u16, b: u16) -> u32
 
 // The estimates from a state to the states of these rows and columns, from a place on.
 // Sixteen bits, and a loop without a division: so the compiler makes several estimates at a time.
-#[tactic(auto, using(laws::specs::Fill::filled_zero, laws::specs::Fill::filled_more, laws::specs::Fill::filled_end))]
+#[tactic(auto, using(laws::specs::Fill::filled_zero))]
 pub fn put_estimates_from(rows: &[u16], columns: &[u16], a: usize, at: usize, estimates: &mut [u32])
     requires { ((length columns.now ≡ length rows.now) × (a < length rows.now)) × (at + length rows.now ≤ length estimates.old) }
     ensures { estimates.new ≡ overlaid at (made (apart rows.now columns.now a) (length rows.now)) estimates.old }

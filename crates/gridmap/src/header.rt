@@ -18,7 +18,7 @@ pub fn byte(text: &[u8], i: usize) -> u8
 }
 
 // Whether a word stands at a place.
-#[tactic(auto, using(laws::specs::All::all_zero, laws::specs::All::all_more, laws::specs::All::all_stop, laws::specs::All::all_end), unfolding(crate::specs::Text::is_word))]
+#[tactic(auto, using(laws::specs::All::all_zero, laws::specs::All::all_more), unfolding(crate::specs::Text::is_word))]
 pub fn is_word(text: &[u8], at: usize, word: &[u8]) -> bool
     requires { (at ≤ 64) × (length word.now ≤ 64) }
     ensures { result ≡ is_word text.now at word.now }
@@ -47,7 +47,7 @@ pub fn digit(text: &[u8], i: usize) -> usize
 }
 
 // How many digits stand from a place on, three at most.
-#[tactic(auto, using(laws::specs::First::first_zero, laws::specs::First::first_more, laws::specs::First::first_at, laws::specs::First::first_end), unfolding(crate::specs::Text::digits))]
+#[tactic(auto, using(laws::specs::First::first_zero, laws::specs::First::first_more), unfolding(crate::specs::Text::digits))]
 pub fn digits(text: &[u8], at: usize) -> usize
     requires { at ≤ 64 }
     ensures { (result ≡ digits text.now at) × (result ≤ 3) }
@@ -61,7 +61,7 @@ pub fn digits(text: &[u8], at: usize) -> usize
 }
 
 // The number that the first so many digits make.
-#[tactic(auto, using(crate::specs::HeadLaws::read_zero, crate::specs::HeadLaws::read_more, crate::specs::HeadLaws::read_end))]
+#[tactic(auto, using(crate::specs::HeadLaws::read_zero, crate::specs::HeadLaws::read_more))]
 pub fn number(text: &[u8], at: usize, many: usize) -> usize
     requires { (at ≤ 64) × (many ≤ 3) }
     ensures { (result ≡ number text.now at many) × (result ≤ 1110) }

@@ -159,7 +159,7 @@ pub fn count_passages(text: &[u8], h: Head, rows: &[u16], columns: &[u16]) -> us
 }
 
 // The passages, each from, to, cost.
-#[tactic(auto, using(crate::specs::WritingLaws::puts_zero, crate::specs::WritingLaws::puts_few, crate::specs::WritingLaws::puts_skip, crate::specs::WritingLaws::puts_room, crate::specs::WritingLaws::puts_more, crate::specs::WritingLaws::puts_end))]
+#[tactic(auto, using(crate::specs::WritingLaws::puts_room))]
 pub fn put_passages(
     text: &[u8],
     h: Head,

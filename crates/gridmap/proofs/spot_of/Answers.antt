@@ -36,15 +36,21 @@ pub overflow_add-result : goal.overflow_add-result
 overflow_add-result c = omega (arith, small _ _ c.fault.ensures c.if-fault-ne0.false _ c.head_of-head.ensures)
 
 pub overflow_cast-result : goal.overflow_cast-result
-overflow_cast-result c = omega (arith, row_in (map_with c.args.text.now c.head_of-head.result) _ (here_in _ _ _ _ _ c.put_cells-n.ensures.0 c.put_cells-n.ensures.1 c.if-state-n.false), small _ _ c.fault.ensures c.if-fault-ne0.false _ c.head_of-head.ensures)
+overflow_cast-result c =
+    let inside = here_in (map_with c.args.text.now c.head_of-head.result) _ _ _ _ c.put_cells-n.ensures.0 c.put_cells-n.ensures.1 c.if-state-n.false in
+    omega (arith, row_in (map_with c.args.text.now c.head_of-head.result) _ inside, small _ _ c.fault.ensures c.if-fault-ne0.false _ c.head_of-head.ensures)
 
 pub overflow_add-result-2 : goal.overflow_add-result-2
 overflow_add-result-2 c = omega (arith, small _ _ c.fault.ensures c.if-fault-ne0.false _ c.head_of-head.ensures)
 
 pub overflow_cast-result-2 : goal.overflow_cast-result-2
-overflow_cast-result-2 c = omega (arith, column_in (map_with c.args.text.now c.head_of-head.result) (get_or c.put_cells-n.new.cell c.args.state 0), small _ _ c.fault.ensures c.if-fault-ne0.false _ c.head_of-head.ensures)
+overflow_cast-result-2 c =
+    let low = column_in (map_with c.args.text.now c.head_of-head.result) (get_or c.put_cells-n.new.cell c.args.state 0) in
+    omega (arith, low, small _ _ c.fault.ensures c.if-fault-ne0.false _ c.head_of-head.ensures)
 
 pub returns : goal.returns
 unfolding spot_of
 returns c =
-    rw (eq-eqb _ 0 (sound _ _ c.fault.ensures c.if-fault-ne0.false), ← c.head_of-head.ensures, lt-ltb _ _ (state_in _ _ _ _ _ c.put_cells-n.ensures.0 c.put_cells-n.ensures.1 c.if-state-n.false), here _ _ _ _ _ c.put_cells-n.ensures.0 c.put_cells-n.ensures.1 c.if-state-n.false)
+    let inside = state_in (map_with c.args.text.now c.head_of-head.result) _ _ _ _ c.put_cells-n.ensures.0 c.put_cells-n.ensures.1 c.if-state-n.false in
+    let at = here (map_with c.args.text.now c.head_of-head.result) _ _ _ _ c.put_cells-n.ensures.0 c.put_cells-n.ensures.1 c.if-state-n.false in
+    rw (eq-eqb _ 0 (sound _ _ c.fault.ensures c.if-fault-ne0.false), ← c.head_of-head.ensures, lt-ltb _ _ inside, at)

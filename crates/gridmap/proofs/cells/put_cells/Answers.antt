@@ -15,7 +15,9 @@ pub loop-p-preserved : goal.loop-p-preserved
 unfolding state_count
 loop-p-preserved c =
     let here = open_is (map_with c.args.text.now c.args.h) c.loop-p.p _ c.byte.ensures _ c.is_open.ensures in
+    let more = picks_more _ _ _ c.requires.1 c.loop-p.p _ _ c.loop-p.invariant c.loop-p.auto.p-end c.loop-p-test.true in
+    let skip = picks_skip _ _ _ c.requires.1 c.loop-p.p _ _ c.loop-p.invariant c.loop-p.auto.p-end in
     elim c.if-is_open.branch [
-      | then-is_open w ↦ rw (w.cell-is, w.next-is) (picks_more _ _ _ c.requires.1 c.loop-p.p _ _ c.loop-p.invariant c.loop-p.auto.p-end c.loop-p-test.true (here ∙ w.if-is_open.true))
-      | else-is_open w ↦ rw (w.cell-is, w.next-is) (picks_skip _ _ _ c.requires.1 c.loop-p.p _ _ c.loop-p.invariant c.loop-p.auto.p-end (here ∙ w.if-is_open.false))
+      | then-is_open w ↦ rw (w.cell-is, w.next-is) (more (here ∙ w.if-is_open.true))
+      | else-is_open w ↦ rw (w.cell-is, w.next-is) (skip (here ∙ w.if-is_open.false))
     ]

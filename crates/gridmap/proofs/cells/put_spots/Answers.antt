@@ -10,14 +10,18 @@ pub loop-s-init : goal.loop-s-init
 loop-s-init c = (filled_zero _ 0 _, filled_zero _ 0 _)
 
 pub overflow_cast-rows : goal.overflow_cast-rows
-overflow_cast-rows c = omega (arith, row_in (map_with c.args.text.now c.args.h) _ (held_in (map_with c.args.text.now c.args.h) _ c.requires.0.1 c.loop-s.s c.loop-s-test.true), c.requires.0.0.high)
+overflow_cast-rows c =
+    let inside = held_in (map_with c.args.text.now c.args.h) _ c.requires.0.1 c.loop-s.s c.loop-s-test.true in
+    omega (arith, row_in (map_with c.args.text.now c.args.h) _ inside, c.requires.0.0.high)
 
 pub loop-s-preserved : goal.loop-s-preserved
 loop-s-preserved c =
     (filled_front _ _ _ c.loop-s.s c.loop-s.invariant.0 (omega arith) _ refl, filled_front _ _ _ c.loop-s.s c.loop-s.invariant.1 (omega arith) _ refl)
 
 pub returns-clause-rows_after : goal.returns-clause-rows_after
-returns-clause-rows_after c = rw (← rows_made (map_with c.args.text.now c.args.h) _ c.requires.0.1) (filled_end _ 0 _ _ _ c.loop-s.s c.loop-s.invariant.0 c.loop-s.auto.s-end c.loop-s-test.false)
+returns-clause-rows_after c =
+    rw (← rows_made (map_with c.args.text.now c.args.h) _ c.requires.0.1) (filled_end _ 0 _ _ _ c.loop-s.s c.loop-s.invariant.0 c.loop-s.auto.s-end c.loop-s-test.false)
 
 pub returns-clause-columns_after : goal.returns-clause-columns_after
-returns-clause-columns_after c = rw (← columns_made (map_with c.args.text.now c.args.h) _ c.requires.0.1) (filled_end _ 0 _ _ _ c.loop-s.s c.loop-s.invariant.1 c.loop-s.auto.s-end c.loop-s-test.false)
+returns-clause-columns_after c =
+    rw (← columns_made (map_with c.args.text.now c.args.h) _ c.requires.0.1) (filled_end _ 0 _ _ _ c.loop-s.s c.loop-s.invariant.1 c.loop-s.auto.s-end c.loop-s-test.false)

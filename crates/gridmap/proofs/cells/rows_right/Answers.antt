@@ -8,4 +8,6 @@ use Rattle.gridmap.proofs.cells.rows_right.Goals as goal
 
 pub returns : goal.returns
 unfolding rows_right
-returns c = rw (eq-eqb _ _ c.if-text-h.false) (rows_pass (map_with c.args.text.now c.args.h) (sym (all_end _ c.loop-row.row _ c.loop-row.invariant c.loop-row.auto.row-end c.loop-row-test.false)))
+returns c =
+    let rows = all_end _ c.loop-row.row _ c.loop-row.invariant c.loop-row.auto.row-end c.loop-row-test.false in
+    rw (eq-eqb _ _ c.if-text-h.false) (rows_pass (map_with c.args.text.now c.args.h) (sym rows))

@@ -6,4 +6,5 @@ use Rattle.gridmap.proofs.header.digits.Goals as goal
 
 pub returns-then-digit-eq10 : goal.returns-then-digit-eq10
 unfolding digits
-returns-then-digit-eq10 c = (first_at _ c.loop-i.i _ c.loop-i.invariant (rw (← c.digit.ensures.0) (eq-eqb _ _ c.if-digit-eq10.true)) c.loop-i-test.true, omega arith)
+returns-then-digit-eq10 c =
+    (first_at _ c.loop-i.i _ c.loop-i.invariant (rw (← c.digit.ensures.0) (eq-eqb _ _ c.if-digit-eq10.true)) c.loop-i-test.true, omega arith)

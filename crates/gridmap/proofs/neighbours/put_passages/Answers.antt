@@ -1,5 +1,6 @@
 -- An end of a passage puts its three numbers behind those that stand there, for which there is room.
-use Rattle.std.proofs.Common.{sym, ◌∙◌, arith, length-set}
+use Rattle.std.proofs.Common.{sym, ◌∙◌, ◌*◌, ◌≤◌, ◌<◌, arith, length-set}
+use Rattle.gridmap.specs.Map.{state_count}
 use Rattle.gridmap.specs.Laws.{map_with}
 use Rattle.gridmap.specs.WritingLaws.{puts_zero, puts_skip, puts_room, puts_more, puts_end}
 use Rattle.gridmap.proofs.neighbours.put_passages.Goals as goal
@@ -10,19 +11,32 @@ loop-j-init c = puts_zero _ _ c.requires.1.1.1.1
 
 pub bounds-passages-next-then-is_passage : goal.bounds-passages-next-then-is_passage
 bounds-passages-next-then-is_passage c =
-    simp length-set (omega (arith, puts_room (map_with c.args.text.now c.args.h) _ c.requires.1.1.1.1 c.loop-j.j _ _ c.loop-j.invariant (omega (arith, c.requires.1.1.0.high)) (omega (arith, c.requires.1.1.0.high)) (sym c.is_passage.ensures ∙ c.if-is_passage.true)))
+    let low : c.loop-j.j ≤ 8 * state_count (map_with c.args.text.now c.args.h) = omega (arith, c.requires.1.1.0.high) in
+    let lower : c.loop-j.j < 8 * state_count (map_with c.args.text.now c.args.h) = omega (arith, c.requires.1.1.0.high) in
+    let here = sym c.is_passage.ensures ∙ c.if-is_passage.true in
+    let room = puts_room (map_with c.args.text.now c.args.h) _ c.requires.1.1.1.1 c.loop-j.j _ _ c.loop-j.invariant low lower here in
+    simp length-set (omega (arith, room))
 
 pub bounds-passages-next-then-is_passage-2 : goal.bounds-passages-next-then-is_passage-2
 bounds-passages-next-then-is_passage-2 c =
-    simp length-set (omega (arith, puts_room (map_with c.args.text.now c.args.h) _ c.requires.1.1.1.1 c.loop-j.j _ _ c.loop-j.invariant (omega (arith, c.requires.1.1.0.high)) (omega (arith, c.requires.1.1.0.high)) (sym c.is_passage.ensures ∙ c.if-is_passage.true)))
+    let low : c.loop-j.j ≤ 8 * state_count (map_with c.args.text.now c.args.h) = omega (arith, c.requires.1.1.0.high) in
+    let lower : c.loop-j.j < 8 * state_count (map_with c.args.text.now c.args.h) = omega (arith, c.requires.1.1.0.high) in
+    let here = sym c.is_passage.ensures ∙ c.if-is_passage.true in
+    let room = puts_room (map_with c.args.text.now c.args.h) _ c.requires.1.1.1.1 c.loop-j.j _ _ c.loop-j.invariant low lower here in
+    simp length-set (omega (arith, room))
 
 pub loop-j-preserved : goal.loop-j-preserved
 loop-j-preserved c =
+    let low : c.loop-j.j ≤ 8 * state_count (map_with c.args.text.now c.args.h) = omega (arith, c.requires.1.1.0.high) in
+    let lower : c.loop-j.j < 8 * state_count (map_with c.args.text.now c.args.h) = omega (arith, c.requires.1.1.0.high) in
+    let more = puts_more (map_with c.args.text.now c.args.h) _ c.requires.1.1.1.1 c.loop-j.j _ _ c.loop-j.invariant low lower in
+    let skip = puts_skip (map_with c.args.text.now c.args.h) _ c.requires.1.1.1.1 c.loop-j.j _ _ c.loop-j.invariant low in
     elim c.if-is_passage.branch [
-      | then-is_passage w ↦ rw (w.passages-is, w.next-is)
-          (puts_more (map_with c.args.text.now c.args.h) _ c.requires.1.1.1.1 c.loop-j.j _ _ c.loop-j.invariant (omega (arith, c.requires.1.1.0.high)) (omega (arith, c.requires.1.1.0.high)) (sym c.is_passage.ensures ∙ w.if-is_passage.true) _ _ w.leads_to.ensures.0 w.cost_to.ensures)
-      | else-is_passage w ↦ rw (w.passages-is, w.next-is) (puts_skip (map_with c.args.text.now c.args.h) _ c.requires.1.1.1.1 c.loop-j.j _ _ c.loop-j.invariant (omega (arith, c.requires.1.1.0.high)) (sym c.is_passage.ensures ∙ w.if-is_passage.false))
+      | then-is_passage w ↦ rw (w.passages-is, w.next-is) (more (sym c.is_passage.ensures ∙ w.if-is_passage.true) _ _ w.leads_to.ensures.0 w.cost_to.ensures)
+      | else-is_passage w ↦ rw (w.passages-is, w.next-is) (skip (sym c.is_passage.ensures ∙ w.if-is_passage.false))
     ]
 
 pub returns : goal.returns
-returns c = puts_end (map_with c.args.text.now c.args.h) _ c.requires.1.1.1.1 c.loop-j.j _ _ c.loop-j.invariant (omega (arith, c.requires.1.1.0.high)) (omega (arith, c.requires.1.1.0.high))
+returns c =
+    let low : c.loop-j.j ≤ 8 * state_count (map_with c.args.text.now c.args.h) = omega (arith, c.requires.1.1.0.high) in
+    puts_end (map_with c.args.text.now c.args.h) _ c.requires.1.1.1.1 c.loop-j.j _ _ c.loop-j.invariant low (omega (arith, c.requires.1.1.0.high))
