@@ -1,6 +1,7 @@
 // `deskrun` from standard input to its exit status: the input is read to its end, reported on once, and the text written.
 #![tactic(auto)]
 
+ghost use Rattle.std.specs.Prelude.{◌<◌};
 ghost use Rattle.filter.specs.Run.{Answered, Ran};
 
 mod stream;
@@ -21,8 +22,10 @@ pub enum Drained {
 }
 
 // Reports on a file that was read, and writes the text to standard output. The status is the file's where all was written.
+#[tactic(auto, using(report::specs::SessionLaws::report_within))]
 fn tell(rt: &HostRuntime, file: &[u8], text: &mut [u8]) -> u32
-    ensures { Answered result file.now text.old text.new }
+    ensures answered { Answered result file.now text.old text.new }
+    ensures small { result < 256 }
 {
     let many = report::report(file, text);
     let status = report::status_of(file);
@@ -34,9 +37,10 @@ fn tell(rt: &HostRuntime, file: &[u8], text: &mut [u8]) -> u32
     }
 }
 
-// Reads the file from standard input, and reports on it where it could be read to its end.
+// Reads the file from standard input, and reports on it where it could be read to its end. The number fits an exit status.
 pub fn run(rt: &HostRuntime, file: &mut [u8], text: &mut [u8]) -> u32
-    ensures { Ran result file.new text.old text.new }
+    ensures ran { Ran result file.new text.old text.new }
+    ensures small { result < 256 }
 {
     let filled = stream::fill(rt, file);
     match filled {
