@@ -1,5 +1,5 @@
 -- The refusals of the ladder, then the loop over the passages of the state held, each of whose turns is one law on `Run`.
-use Rattle.std.proofs.Common.{ℕ, ◌≡◌, ◌∙◌, sym, ap, not, ◌+◌, ◌<◌, arith, eq-eqb, ne_eqb}
+use Rattle.std.proofs.Common.{ℕ, ◌∙◌, sym, ap, not, ◌+◌, ◌<◌, arith, eq-eqb, ne_eqb}
 use Rattle.desk.specs.Machine.{label_of}
 use Rattle.desk.specs.Bring.{bring_of}
 use Rattle.desk.specs.Laws.{sound_sizes, turned_away, not_ready, goes_on, Carried, run_zero, run_brought, run_skip, run_blocked, run_kept, run_set}

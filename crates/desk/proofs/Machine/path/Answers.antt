@@ -45,26 +45,33 @@ path_length-count-requires c =
 
 pub returns-then-count-eq0 : goal.returns-then-count-eq0
 returns-then-count-eq0 c =
-    let e = reads_as (path_broken _ _ _ _ c.args.at (fit (goal.at.returns-then-count-eq0 c).Else-not-fits) c.if-self-ne1.false _ c.path_length-count.ensures c.if-count-eq0.true) in
+    let f = fit (goal.at.returns-then-count-eq0 c).Else-not-fits in
+    let e = reads_as (path_broken _ _ _ _ c.args.at f c.if-self-ne1.false _ c.path_length-count.ensures c.if-count-eq0.true) in
     (c.refused-then-count-eq0.ensures ∙ e.0, e.1)
 
 pub returns-then-at-buffer : goal.returns-then-at-buffer
 returns-then-at-buffer c =
-    let e = reads_as (path_short _ _ _ _ c.args.at (fit (goal.at.returns-then-at-buffer c).Else-not-fits) c.if-self-ne1.false _ c.path_length-count.ensures c.if-count-eq0.false (omega arith)) in
+    let f = fit (goal.at.returns-then-at-buffer c).Else-not-fits in
+    let e = reads_as (path_short _ _ _ _ c.args.at f c.if-self-ne1.false _ c.path_length-count.ensures c.if-count-eq0.false (omega arith)) in
     (c.refused-then-at-buffer.ensures ∙ e.0, e.1)
 
 pub returns-then-count-buffer : goal.returns-then-count-buffer
 returns-then-count-buffer c =
-    let e = reads_as (path_short _ _ _ _ c.args.at (fit (goal.at.returns-then-count-buffer c).Else-not-fits) c.if-self-ne1.false _ c.path_length-count.ensures c.if-count-eq0.false c.if-count-buffer.true) in
+    let f = fit (goal.at.returns-then-count-buffer c).Else-not-fits in
+    let e = reads_as (path_short _ _ _ _ c.args.at f c.if-self-ne1.false _ c.path_length-count.ensures c.if-count-eq0.false c.if-count-buffer.true) in
     (c.refused-then-count-buffer.ensures ∙ e.0, e.1)
 
 pub write_back-requires : goal.write_back-requires
 write_back-requires c =
-    (path_way _ _ _ c.args.buffer.now c.args.at (fit (goal.at.write_back-requires c).Else-not-fits) c.if-self-ne1.false _ c.path_length-count.ensures c.if-count-eq0.false, simp (length-take, length-drop) (omega (arith, c.if-count-buffer.false)))
+    let f = fit (goal.at.write_back-requires c).Else-not-fits in (
+      path_way _ _ _ c.args.buffer.now c.args.at f c.if-self-ne1.false _ c.path_length-count.ensures c.if-count-eq0.false,
+      simp (length-take, length-drop) (omega (arith, c.if-count-buffer.false)),
+    )
 
 pub overflow_cast-states : goal.overflow_cast-states
 overflow_cast-states c =
-    omega (arith, c.path_length-count.ensures, path_within (trail_of c.args.self c.args.passages.now), (facts (goal.at.overflow_cast-states c).Else-not-fits).task.states)
+    let f = facts (goal.at.overflow_cast-states c).Else-not-fits in
+    omega (arith, c.path_length-count.ensures, path_within (trail_of c.args.self c.args.passages.now), f.task.states)
 
 pub returns : goal.returns
 returns c =

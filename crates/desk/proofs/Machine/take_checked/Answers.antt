@@ -1,5 +1,5 @@
 -- The refusals of the ladder, then what was decided. A machine that fits gives the choice what it asks, and a decided state has a place in the rows.
-use Rattle.std.proofs.Common.{◌∙◌, ◌<◌, arith, eq-eqb, ne_eqb}
+use Rattle.std.proofs.Common.{◌∙◌, ◌<◌, arith, ne_eqb}
 use Rattle.checks.specs.Laws.{whole}
 use Rattle.desk.specs.Take.{take_of}
 use Rattle.desk.specs.KeyLaws.{keyed}

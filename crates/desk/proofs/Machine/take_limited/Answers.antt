@@ -1,5 +1,5 @@
 -- The refusals of the ladder, then Cut or what was decided. A machine that fits gives the test what it asks, and bounds how many comparisons it makes.
-use Rattle.std.proofs.Common.{◌≡◌, ◌∙◌, sym, ap, ◌<◌, arith, eq-eqb, ne_eqb}
+use Rattle.std.proofs.Common.{◌∙◌, sym, ap, ◌<◌, arith, eq-eqb, ne_eqb}
 use Rattle.checks.specs.Laws.{whole}
 use Rattle.desk.specs.declared.Answer.{Answer}
 use Rattle.desk.specs.Machine.{hands_of}
@@ -58,9 +58,11 @@ act-answer-requires c =
 
 pub returns-in-Cut : goal.returns-in-Cut
 returns-in-Cut c =
-    limited_cut _ _ _ _ _ (let_in (goal.at.returns-in-Cut c).Else-number-ne0) (eq-eqb _ 65535 c.if-self-worker.false) (sym c.in-Cut.is ∙ c.decide_limited-limited.ensures)
+    let a = let_in (goal.at.returns-in-Cut c).Else-number-ne0 in
+    limited_cut _ _ _ _ _ a (eq-eqb _ 65535 c.if-self-worker.false) (sym c.in-Cut.is ∙ c.decide_limited-limited.ensures)
 
 pub returns-in-Decided : goal.returns-in-Decided
 returns-in-Decided c =
+    let a = let_in (goal.at.returns-in-Decided c).Else-number-ne0 in
     ap (λ (x : Answer). counted x c.in-Decided.made) c.act-answer.ensures
-    ∙ limited_step _ _ _ _ _ (let_in (goal.at.returns-in-Decided c).Else-number-ne0) (eq-eqb _ 65535 c.if-self-worker.false) _ _ (sym c.in-Decided.is ∙ c.decide_limited-limited.ensures)
+    ∙ limited_step _ _ _ _ _ a (eq-eqb _ 65535 c.if-self-worker.false) _ _ (sym c.in-Decided.is ∙ c.decide_limited-limited.ensures)

@@ -9,7 +9,8 @@ loop-i-init c = served_zero _ _ _ _ _
 
 pub called-answer-requires : goal.called-answer-requires
 called-answer-requires c =
-    after_sound _ _ _ _ _ _ (record { marks = search rules; labels = search rules; vias = search rules; workers = search rules; keys = search rules }) c.requires.0 c.loop-i.invariant.machine
+    after_sound _ _ _ _ _ _ (record { marks = search rules; labels = search rules; vias = search rules; workers = search rules; keys = search rules })
+    c.requires.0 c.loop-i.invariant.machine
 
 pub loop-i-preserved : goal.loop-i-preserved
 loop-i-preserved c = served_more _ _ _ _ _ _ _ c.loop-i.i _ _ c.loop-i.invariant c.loop-i-test.true (search rules) c.called-answer.ensures c.code.ensures
