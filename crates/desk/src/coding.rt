@@ -5,6 +5,7 @@ ghost use Rattle.desk.specs.Reply.{code_of};
 use super::Reply;
 
 // The case times 2^32, plus the number that the reply carries.
+#[tactic(auto, unfolding(crate::specs::Reply::code_of))]
 pub fn code(reply: Reply) -> u64
     ensures { result ≡ code_of reply }
 {

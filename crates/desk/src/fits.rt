@@ -42,6 +42,7 @@ pub fn sound<'a>(
 }
 
 // What a call can change is right: the phase, the marks and labels of the states, and what the workers hold.
+#[tactic(auto, unfolding(crate::specs::Fits::rows_fit))]
 pub fn rows_fit<'a>(
     n: usize,
     k: usize,
@@ -88,6 +89,7 @@ pub fn fits<'a>(
 }
 
 // The first of 8, 9 and 10 that applies to a worker's call, or 0.
+#[tactic(auto, unfolding(crate::specs::Laws::call_fault))]
 pub fn call_fault<'a>(
     sound: bool,
     n: usize,

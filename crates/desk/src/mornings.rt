@@ -23,6 +23,7 @@ pub fn called(m: Machine, sound: bool, passages: &[u32], estimates: &[u32], even
 }
 
 // Whether each number is a Take or a Bring.
+#[tactic(auto, using(laws::specs::All::all_zero, laws::specs::All::all_more, laws::specs::All::all_end), unfolding(crate::specs::Morning::events_right))]
 pub fn are_events(events: &[u32]) -> bool
     ensures { result ≡ events_right events.now }
 {
@@ -35,6 +36,7 @@ pub fn are_events(events: &[u32]) -> bool
 }
 
 // The number of the first of 16 and 18 that applies, or 0.
+#[tactic(auto, unfolding(crate::specs::Morning::morning_fault))]
 pub fn morning_fault(events: &[u32], places: usize) -> u8
     ensures { result ≡ morning_fault events.now places }
 {
@@ -71,6 +73,7 @@ pub fn serve(
 }
 
 impl Machine {
+    #[tactic(auto, using(crate::specs::CallLaws::morning_room), unfolding(crate::specs::Morning::morning_of))]
     pub fn morning(
         self,
         passages: &[u32],

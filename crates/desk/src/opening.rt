@@ -6,6 +6,7 @@ ghost use Rattle.desk.specs.Opening.{opening_of, blank_machine};
 use super::{Answer, Machine, Reply, fits};
 
 // A machine whose numbers are all 0: what a refused opening hands back.
+#[tactic(auto, unfolding(crate::specs::Opening::blank_machine))]
 pub fn blank() -> Machine
     ensures { result ≡ blank_machine }
 {
@@ -31,6 +32,7 @@ pub fn blank() -> Machine
 }
 
 impl Machine {
+    #[tactic(auto, unfolding(crate::specs::Opening::opening_of, crate::specs::Opening::opened_machine))]
     pub fn opening(
         n: usize,
         k: usize,
