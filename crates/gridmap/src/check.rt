@@ -5,6 +5,7 @@ ghost use Rattle.gridmap.specs.Reading.{map_fault};
 use super::{cells, header};
 
 // The number of the first of 31 to 33 that applies, or 0.
+#[tactic(auto, using(crate::specs::HeadLaws::small_head), unfolding(crate::specs::Reading::map_fault, crate::specs::Map::count_right))]
 pub fn fault(text: &[u8]) -> u8
     ensures { result ≡ map_fault text.now }
 {

@@ -6,6 +6,7 @@ ghost use Rattle.gridmap.specs.Estimates.{gap, octile};
 ghost use Rattle.gridmap.specs.Laws.{apart, table_of};
 
 // How far two coordinates are apart.
+#[tactic(auto, unfolding(crate::specs::Estimates::gap))]
 pub fn gap(a: u16, b: u16) -> u16
     ensures { result ≡ gap a b }
 {
@@ -16,6 +17,7 @@ pub fn gap(a: u16, b: u16) -> u16
 }
 
 // 1,000 times the larger plus 414 times the smaller.
+#[tactic(auto, unfolding(crate::specs::Estimates::octile))]
 pub fn octile(a: u16, b: u16) -> u32
     ensures { result ≡ octile a b }
 {
@@ -27,6 +29,7 @@ pub fn octile(a: u16, b: u16) -> u32
 
 // The estimates from a state to the states of these rows and columns, from a place on.
 // Sixteen bits, and a loop without a division: so the compiler makes several estimates at a time.
+#[tactic(auto, using(laws::specs::Fill::filled_zero, laws::specs::Fill::filled_more, laws::specs::Fill::filled_end))]
 pub fn put_estimates_from(rows: &[u16], columns: &[u16], a: usize, at: usize, estimates: &mut [u32])
     requires { ((length columns.now ≡ length rows.now) × (a < length rows.now)) × (at + length rows.now ≤ length estimates.old) }
     ensures { estimates.new ≡ overlaid at (made (apart rows.now columns.now a) (length rows.now)) estimates.old }
@@ -39,6 +42,7 @@ pub fn put_estimates_from(rows: &[u16], columns: &[u16], a: usize, at: usize, es
 }
 
 // The estimates between the states of these rows and columns, h(a,b) at a times n plus b.
+#[tactic(auto, using(crate::specs::EstimateLaws::table_zero, crate::specs::EstimateLaws::table_more, crate::specs::EstimateLaws::table_end))]
 pub fn put_estimates(rows: &[u16], columns: &[u16], estimates: &mut [u32])
     requires { (length columns.now ≡ length rows.now) × (length rows.now * length rows.now ≤ length estimates.old) }
     ensures { estimates.new ≡ overlaid 0 (table_of rows.now columns.now) estimates.old }

@@ -7,6 +7,7 @@ ghost use Rattle.gridmap.specs.Laws.{map_with};
 use super::Head;
 
 // The byte at a place; 0 past the end.
+#[tactic(auto, unfolding(crate::specs::Text::byte))]
 pub fn byte(text: &[u8], i: usize) -> u8
     ensures { result ≡ byte text.now i }
 {
@@ -17,6 +18,7 @@ pub fn byte(text: &[u8], i: usize) -> u8
 }
 
 // Whether a word stands at a place.
+#[tactic(auto, using(laws::specs::All::all_zero, laws::specs::All::all_more, laws::specs::All::all_stop, laws::specs::All::all_end), unfolding(crate::specs::Text::is_word))]
 pub fn is_word(text: &[u8], at: usize, word: &[u8]) -> bool
     requires { (at ≤ 64) × (length word.now ≤ 64) }
     ensures { result ≡ is_word text.now at word.now }
@@ -30,6 +32,7 @@ pub fn is_word(text: &[u8], at: usize, word: &[u8]) -> bool
 }
 
 // The digit at a place; 10 where none stands there.
+#[tactic(auto, unfolding(crate::specs::Text::digit))]
 pub fn digit(text: &[u8], i: usize) -> usize
     ensures { (result ≡ digit text.now i) × (result ≤ 10) }
 {
@@ -44,6 +47,7 @@ pub fn digit(text: &[u8], i: usize) -> usize
 }
 
 // How many digits stand from a place on, three at most.
+#[tactic(auto, using(laws::specs::First::first_zero, laws::specs::First::first_more, laws::specs::First::first_at, laws::specs::First::first_end), unfolding(crate::specs::Text::digits))]
 pub fn digits(text: &[u8], at: usize) -> usize
     requires { at ≤ 64 }
     ensures { (result ≡ digits text.now at) × (result ≤ 3) }
@@ -57,6 +61,7 @@ pub fn digits(text: &[u8], at: usize) -> usize
 }
 
 // The number that the first so many digits make.
+#[tactic(auto, using(crate::specs::HeadLaws::read_zero, crate::specs::HeadLaws::read_more, crate::specs::HeadLaws::read_end))]
 pub fn number(text: &[u8], at: usize, many: usize) -> usize
     requires { (at ≤ 64) × (many ≤ 3) }
     ensures { (result ≡ number text.now at many) × (result ≤ 1110) }
@@ -69,6 +74,7 @@ pub fn number(text: &[u8], at: usize, many: usize) -> usize
 }
 
 // Whether a number from 1 to 256 without leading zeros stands at a place.
+#[tactic(auto, unfolding(crate::specs::Text::is_size))]
 pub fn is_size(text: &[u8], at: usize) -> bool
     requires { at ≤ 64 }
     ensures { result ≡ is_size text.now at }
@@ -84,6 +90,7 @@ pub fn is_size(text: &[u8], at: usize) -> bool
 }
 
 // Whether the head is right.
+#[tactic(auto, unfolding(crate::specs::Text::head_right, crate::specs::Text::width_at))]
 pub fn head_right(text: &[u8]) -> bool
     ensures { result ≡ head_right text.now }
 {
@@ -104,6 +111,7 @@ pub fn head_right(text: &[u8]) -> bool
 }
 
 // What the head announces.
+#[tactic(auto, using(crate::specs::HeadLaws::head_is))]
 pub fn head_of(text: &[u8]) -> Head
     requires { head_right text.now ≡ true }
     ensures { map_with text.now result ≡ map_of text.now }

@@ -64,6 +64,7 @@ pub fn read_map(text: &[u8], passages: &mut [u32], estimates: &mut [u32]) -> Sur
 }
 
 // The row and column of a state.
+#[tactic(auto, unfolding(crate::specs::Reading::spot_of))]
 pub fn spot_of(text: &[u8], state: usize) -> Spot
     ensures { result ≡ spot_of text.now state }
 {
@@ -84,6 +85,7 @@ pub fn spot_of(text: &[u8], state: usize) -> Spot
 }
 
 // The state at a row and column; 65,535 where there is none.
+#[tactic(auto, unfolding(crate::specs::Reading::state_at_spot))]
 pub fn state_at(text: &[u8], row: usize, column: usize) -> u16
     ensures { result ≡ state_at_spot text.now row column }
 {

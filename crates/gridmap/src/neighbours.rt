@@ -9,6 +9,7 @@ ghost use Rattle.gridmap.specs.Laws.{map_with, Small, Spots, Ascending, holds};
 use super::{Head, cells, header};
 
 // Whether a cell is on the map, and open. Rows and columns count from 1.
+#[tactic(auto, unfolding(crate::specs::Passages::free, crate::specs::Map::open_at))]
 pub fn free(text: &[u8], h: Head, y: usize, x: usize) -> bool
     requires { Small h }
     ensures { result ≡ free (map_with text.now h) y x }
@@ -29,6 +30,7 @@ pub fn free(text: &[u8], h: Head, y: usize, x: usize) -> bool
 }
 
 // The row that a step leads to.
+#[tactic(auto, unfolding(crate::specs::Passages::row_to))]
 pub fn row_to(d: usize, y: usize) -> usize
     requires { (1 ≤ y) × (y ≤ 256) }
     ensures { result ≡ row_to d y }
@@ -48,6 +50,7 @@ pub fn row_to(d: usize, y: usize) -> usize
 }
 
 // The column that a step leads to.
+#[tactic(auto, unfolding(crate::specs::Passages::column_to))]
 pub fn column_to(d: usize, x: usize) -> usize
     requires { (1 ≤ x) × (x ≤ 257) }
     ensures { result ≡ column_to d x }
@@ -64,6 +67,7 @@ pub fn column_to(d: usize, x: usize) -> usize
 }
 
 // Whether a passage leads in a direction.
+#[tactic(auto, unfolding(crate::specs::Passages::linked))]
 pub fn is_linked(text: &[u8], h: Head, y: usize, x: usize, d: usize) -> bool
     requires { Small h × (((1 ≤ y) × (y ≤ 256)) × ((1 ≤ x) × (x ≤ 257))) }
     ensures { result ≡ linked (map_with text.now h) y x d }
@@ -93,6 +97,7 @@ pub fn cost_to(d: usize) -> u32
 }
 
 // Whether the j-th of all neighbours is the end of a passage.
+#[tactic(auto, using(crate::specs::RowLaws::here_row, crate::specs::RowLaws::here_column, crate::specs::RowLaws::passage_is))]
 pub fn is_passage(text: &[u8], h: Head, rows: &[u16], columns: &[u16], j: usize) -> bool
     requires { Small h × (Spots (map_with text.now h) rows.now columns.now × (j < 8 * length rows.now)) }
     ensures { result ≡ is_passage (map_with text.now h) j }
@@ -120,6 +125,7 @@ pub fn leads_to(
 }
 
 // The first place of an ascending row that holds a number which it has, found by halving.
+#[tactic(auto, using(crate::specs::RowLaws::half_above, crate::specs::RowLaws::half_below))]
 pub fn state_of(cell: &[u32], place: usize) -> usize
     requires { Ascending cell.now × (first (holds cell.now place) (length cell.now) < length cell.now) }
     ensures { result ≡ first (holds cell.now place) (length cell.now) }
@@ -138,6 +144,7 @@ pub fn state_of(cell: &[u32], place: usize) -> usize
 }
 
 // How many passages there are.
+#[tactic(auto, using(laws::specs::Count::count_zero, laws::specs::Count::count_yes, laws::specs::Count::count_no), unfolding(crate::specs::Passages::passages_many))]
 pub fn count_passages(text: &[u8], h: Head, rows: &[u16], columns: &[u16]) -> usize
     requires { Small h × (Spots (map_with text.now h) rows.now columns.now × (length rows.now ≤ 256)) }
     ensures { (result ≡ passages_many (map_with text.now h)) × (result ≤ 2048) }
@@ -152,6 +159,7 @@ pub fn count_passages(text: &[u8], h: Head, rows: &[u16], columns: &[u16]) -> us
 }
 
 // The passages, each from, to, cost.
+#[tactic(auto, using(crate::specs::WritingLaws::puts_zero, crate::specs::WritingLaws::puts_few, crate::specs::WritingLaws::puts_skip, crate::specs::WritingLaws::puts_room, crate::specs::WritingLaws::puts_more, crate::specs::WritingLaws::puts_end))]
 pub fn put_passages(
     text: &[u8],
     h: Head,
