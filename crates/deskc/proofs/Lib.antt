@@ -1,2 +1,1 @@
--- Beside the proofs of the functions: that each contract determines its answer.
-pub mod Determined
+-- Beside the proofs of the functions: the laws that several functions name.
