@@ -1,1 +1,2 @@
--- Beside the proofs of the functions: the laws that several functions name.
+-- Beside the proofs of the functions: that each contract determines its answer.
+pub mod Determined
