@@ -7,150 +7,155 @@ use native.Mathlib.Omega.{arith}
 use lib.ListN.{length}
 use contract.Lifetimes.{Lfts}
 use denote.Ref.{Bor}
+use denote.MutBor.{MutBor}
 use denote.Triple.Entry.{Args}
 use Rattle.determined.specs.Fixes.{Fixes, Answers, nothing_said, result_said, same}
+use Rattle.deskc.specs.contracts as c
 use Rattle.deskc.proofs as f
 
 -- lib.rt
-pub desk_open : Answers f.desk_open.ended f.desk_open.Reads.Asked f.desk_open.Reads.Learnt
+pub desk_open : Answers c.desk_open.ended f.desk_open.Reads.Asked f.desk_open.Reads.Learnt
 desk_open = (λ κs a. tt, λ κs a x y p q i. (same p.0 q.0 i, (tt, (tt, (tt, (tt, (tt, (tt, (tt, (tt, (same p.1 q.1 i, tt)))))))))))
 
-pub desk_take : Answers f.desk_take.ended f.desk_take.Reads.Asked f.desk_take.Reads.Learnt
+pub desk_take : Answers c.desk_take.ended f.desk_take.Reads.Asked f.desk_take.Reads.Learnt
 desk_take = (λ κs a. tt, λ κs a x y p q i. (same p.0 q.0 i, (same p.1 q.1 i, (tt, (tt, (tt, tt))))))
 
-pub desk_take_limited : Answers f.desk_take_limited.ended f.desk_take_limited.Reads.Asked f.desk_take_limited.Reads.Learnt
+pub desk_take_limited : Answers c.desk_take_limited.ended f.desk_take_limited.Reads.Asked f.desk_take_limited.Reads.Learnt
 desk_take_limited = (λ κs a. tt, λ κs a x y p q i. (same p.0 q.0 i, (same p.1 q.1 i, (tt, (tt, (tt, (tt, tt)))))))
 
-pub desk_bring : Answers f.desk_bring.ended f.desk_bring.Reads.Asked f.desk_bring.Reads.Learnt
+pub desk_bring : Answers c.desk_bring.ended f.desk_bring.Reads.Asked f.desk_bring.Reads.Learnt
 desk_bring = (λ κs a. tt, λ κs a x y p q i. (same p.0 q.0 i, (same p.1 q.1 i, (tt, (tt, (tt, tt))))))
 
-pub desk_morning : Answers f.desk_morning.ended f.desk_morning.Reads.Asked f.desk_morning.Reads.Learnt
+pub desk_morning : Answers c.desk_morning.ended f.desk_morning.Reads.Asked f.desk_morning.Reads.Learnt
 desk_morning = (λ κs a. tt, λ κs a x y p q i. (same p.0 q.0 i, (same p.1.0 q.1.0 i, (tt, (tt, (tt, (same p.1.1 q.1.1 i, tt)))))))
 
-pub desk_path : Answers f.desk_path.ended f.desk_path.Reads.Asked f.desk_path.Reads.Learnt
+pub desk_path : Answers c.desk_path.ended f.desk_path.Reads.Asked f.desk_path.Reads.Learnt
 desk_path = (λ κs a. tt, λ κs a x y p q i. (same p.0 q.0 i, (tt, (tt, (tt, (same p.1 q.1 i, (tt, tt)))))))
 
-pub desk_print : Answers f.desk_print.ended f.desk_print.Reads.Asked f.desk_print.Reads.Learnt
+pub desk_print : Answers c.desk_print.ended f.desk_print.Reads.Asked f.desk_print.Reads.Learnt
 desk_print = (λ κs a. tt, λ κs a x y p q i. (same p.0 q.0 i, (tt, (same p.1 q.1 i, tt))))
 
-pub desk_map : Answers f.desk_map.ended f.desk_map.Reads.Asked f.desk_map.Reads.Learnt
+pub desk_map : Answers c.desk_map.ended f.desk_map.Reads.Asked f.desk_map.Reads.Learnt
 desk_map = (λ κs a. tt, λ κs a x y p q i. (same p.0 q.0 i, (tt, (same p.1.0 q.1.0 i, (same p.1.1 q.1.1 i, tt)))))
 
-pub desk_map_spot : Answers f.desk_map_spot.ended f.desk_map_spot.Reads.Asked f.desk_map_spot.Reads.Learnt
+pub desk_map_spot : Answers c.desk_map_spot.ended f.desk_map_spot.Reads.Asked f.desk_map_spot.Reads.Learnt
 desk_map_spot = (λ κs a. tt, λ κs a x y p q i. (same p q i, x.1))
 
-pub desk_map_state : Answers f.desk_map_state.ended f.desk_map_state.Reads.Asked f.desk_map_state.Reads.Learnt
+pub desk_map_state : Answers c.desk_map_state.ended f.desk_map_state.Reads.Asked f.desk_map_state.Reads.Learnt
 desk_map_state = (λ κs a. tt, λ κs a x y p q i. (same p q i, x.1))
 
-pub desk_file_read : Answers f.desk_file_read.ended f.desk_file_read.Reads.Asked f.desk_file_read.Reads.Learnt
+pub desk_file_read : Answers c.desk_file_read.ended f.desk_file_read.Reads.Asked f.desk_file_read.Reads.Learnt
 desk_file_read = (λ κs a. tt, λ κs a x y p q i. (same p.0 q.0 i, (tt, (same p.1.0 q.1.0 i, (same p.1.1.0 q.1.1.0 i, (same p.1.1.1.0 q.1.1.1.0 i, (same p.1.1.1.1 q.1.1.1.1 i, tt)))))))
 
-pub desk_file_write : Answers f.desk_file_write.ended f.desk_file_write.Reads.Asked f.desk_file_write.Reads.Learnt
+pub desk_file_write : Answers c.desk_file_write.ended f.desk_file_write.Reads.Asked f.desk_file_write.Reads.Learnt
 desk_file_write = (λ κs a. tt, λ κs a x y p q i. (same p.0 q.0 i, (tt, (tt, (tt, (tt, (tt, (tt, (tt, (tt, (tt, (same p.1 q.1 i, tt))))))))))))
 
 -- row.rt
-pub unfit : Answers f.row.unfit.ended f.row.unfit.Reads.Asked f.row.unfit.Reads.Learnt
+pub unfit : Answers c.row.unfit.ended f.row.unfit.Reads.Asked f.row.unfit.Reads.Learnt
 unfit = (λ κs a. tt, λ κs a x y p q i. (same p q i, x.1))
 
-pub at_most : Fixes f.row.at_most.ended f.row.at_most.Reads.Learnt
+pub at_most : Fixes c.row.at_most.ended f.row.at_most.Reads.Learnt
 at_most κs a x y p q i = (same p q i, x.1)
 
-pub is_row : Answers f.row.is_row.ended f.row.is_row.Reads.Asked f.row.is_row.Reads.Learnt
+pub is_row : Answers c.row.is_row.ended f.row.is_row.Reads.Asked f.row.is_row.Reads.Learnt
 is_row = (λ κs a. tt, λ κs a x y p q i. (same p q i, x.1))
 
-pub marks : Fixes f.row.marks.ended f.row.marks.Reads.Learnt
+pub marks : Fixes c.row.marks.ended f.row.marks.Reads.Learnt
 marks κs a x y p q i = (same p q i, x.1)
 
-pub labels : Fixes f.row.labels.ended f.row.labels.Reads.Learnt
+pub labels : Fixes c.row.labels.ended f.row.labels.Reads.Learnt
 labels κs a x y p q i = (same p q i, x.1)
 
-pub vias : Fixes f.row.vias.ended f.row.vias.Reads.Learnt
+pub vias : Fixes c.row.vias.ended f.row.vias.Reads.Learnt
 vias κs a x y p q i = (same p q i, x.1)
 
-pub held_states : Fixes f.row.held_states.ended f.row.held_states.Reads.Learnt
+pub held_states : Fixes c.row.held_states.ended f.row.held_states.Reads.Learnt
 held_states κs a x y p q i = (same p q i, x.1)
 
-pub keys : Fixes f.row.keys.ended f.row.keys.Reads.Learnt
+pub keys : Fixes c.row.keys.ended f.row.keys.Reads.Learnt
 keys κs a x y p q i = (same p q i, x.1)
 
-pub unpack : Fixes f.row.unpack.ended f.row.unpack.Reads.Learnt
+pub unpack : Fixes c.row.unpack.ended f.row.unpack.Reads.Learnt
 unpack κs a x y p q i = (same p q i, x.1)
 
-pub put_marks : Fixes f.row.put_marks.ended f.row.put_marks.Reads.Learnt
+pub put_marks : Fixes c.row.put_marks.ended f.row.put_marks.Reads.Learnt
 put_marks κs a x y p q i = (tt, (same p q i, (tt, tt)))
 
-pub wide8 : Answers f.row.wide8.ended f.row.wide8.Reads.Asked f.row.wide8.Reads.Learnt
+pub wide8 : Answers c.row.wide8.ended f.row.wide8.Reads.Asked f.row.wide8.Reads.Learnt
 wide8 = (λ κs a. tt, λ κs a x y p q i. (same p q i, x.1))
 
-pub wide16 : Answers f.row.wide16.ended f.row.wide16.Reads.Asked f.row.wide16.Reads.Learnt
+pub wide16 : Answers c.row.wide16.ended f.row.wide16.Reads.Asked f.row.wide16.Reads.Learnt
 wide16 = (λ κs a. tt, λ κs a x y p q i. (same p q i, x.1))
 
-pub put_labels : Fixes f.row.put_labels.ended f.row.put_labels.Reads.Learnt
+pub put_labels : Fixes c.row.put_labels.ended f.row.put_labels.Reads.Learnt
 put_labels κs a x y p q i = (tt, (same p q i, (tt, tt)))
 
-pub put_vias : Fixes f.row.put_vias.ended f.row.put_vias.Reads.Learnt
+pub put_vias : Fixes c.row.put_vias.ended f.row.put_vias.Reads.Learnt
 put_vias κs a x y p q i = (tt, (same p q i, (tt, tt)))
 
-pub put_held : Fixes f.row.put_held.ended f.row.put_held.Reads.Learnt
+pub put_held : Fixes c.row.put_held.ended f.row.put_held.Reads.Learnt
 put_held κs a x y p q i = (tt, (same p q i, (tt, tt)))
 
-pub low_half : Answers f.row.low_half.ended f.row.low_half.Reads.Asked f.row.low_half.Reads.Learnt
+pub low_half : Answers c.row.low_half.ended f.row.low_half.Reads.Asked f.row.low_half.Reads.Learnt
 low_half = (λ κs a. tt, λ κs a x y p q i. (same p q i, x.1))
 
-pub high_half : Answers f.row.high_half.ended f.row.high_half.Reads.Asked f.row.high_half.Reads.Learnt
+pub high_half : Answers c.row.high_half.ended f.row.high_half.Reads.Asked f.row.high_half.Reads.Learnt
 high_half = (λ κs a. tt, λ κs a x y p q i. (same p q i, x.1))
 
-pub put_keys : Fixes f.row.put_keys.ended f.row.put_keys.Reads.Learnt
+pub put_keys : Fixes c.row.put_keys.ended f.row.put_keys.Reads.Learnt
 put_keys κs a x y p q i = (tt, (same p q i, (tt, tt)))
 
-pub put_changing : Fixes f.row.put_changing.ended f.row.put_changing.Reads.Learnt
+pub put_changing : Fixes c.row.put_changing.ended f.row.put_changing.Reads.Learnt
 put_changing κs a x y p q i = (tt, (same p q i, (tt, tt)))
 
-pub put_taken : Fixes f.row.put_taken.ended f.row.put_taken.Reads.Learnt
+pub put_taken : Fixes c.row.put_taken.ended f.row.put_taken.Reads.Learnt
 put_taken κs a x y p q i = (tt, (same p q i, (tt, (tt, tt))))
 
-pub put_head : Fixes f.row.put_head.ended f.row.put_head.Reads.Learnt
+pub put_head : Fixes c.row.put_head.ended f.row.put_head.Reads.Learnt
 put_head κs a x y p q i = (tt, (same p q i, (tt, tt)))
 
 -- weights.rt
-pub clamp : Answers f.weights.clamp.ended f.weights.clamp.Reads.Asked f.weights.clamp.Reads.Learnt
+pub clamp : Answers c.weights.clamp.ended f.weights.clamp.Reads.Asked f.weights.clamp.Reads.Learnt
 clamp = (λ κs a. tt, λ κs a x y p q i. (same p q i, x.1))
 
 -- maps.rt
-pub survey_code : Answers f.maps.survey_code.ended f.maps.survey_code.Reads.Asked f.maps.survey_code.Reads.Learnt
+pub survey_code : Answers c.maps.survey_code.ended f.maps.survey_code.Reads.Asked f.maps.survey_code.Reads.Learnt
 survey_code = (λ κs a. tt, λ κs a x y p q i. (same p q i, x.1))
 
-pub spot_code : Answers f.maps.spot_code.ended f.maps.spot_code.Reads.Asked f.maps.spot_code.Reads.Learnt
+pub spot_code : Answers c.maps.spot_code.ended f.maps.spot_code.Reads.Asked f.maps.spot_code.Reads.Learnt
 spot_code = (λ κs a. tt, λ κs a x y p q i. (same p q i, x.1))
 
 -- files.rt
-pub read_code : Fixes f.files.read_code.ended f.files.read_code.Reads.Learnt
+pub read_code : Fixes c.files.read_code.ended f.files.read_code.Reads.Learnt
 read_code κs a x y p q i = (same p q i, x.1)
 
-pub short_row : Answers f.files.short_row.ended f.files.short_row.Reads.Asked f.files.short_row.Reads.Learnt
+pub short_row : Answers c.files.short_row.ended f.files.short_row.Reads.Asked f.files.short_row.Reads.Learnt
 short_row = (λ κs a. tt, λ κs a x y p q i. (same p q i, x.1))
 
-pub filed_code : Answers f.files.filed_code.ended f.files.filed_code.Reads.Asked f.files.filed_code.Reads.Learnt
+pub filed_code : Answers c.files.filed_code.ended f.files.filed_code.Reads.Asked f.files.filed_code.Reads.Learnt
 filed_code = (λ κs a. tt, λ κs a x y p q i. (same p q i, x.1))
 
-pub put_contents : Fixes f.files.put_contents.ended f.files.put_contents.Reads.Learnt
+pub put_contents : Fixes c.files.put_contents.ended f.files.put_contents.Reads.Learnt
 put_contents κs a x y p q i = (tt, (same p q i, (tt, tt)))
 
-pub put_numbers : Fixes f.files.put_numbers.ended f.files.put_numbers.Reads.Learnt
+pub put_numbers : Fixes c.files.put_numbers.ended f.files.put_numbers.Reads.Learnt
 put_numbers κs a x y p q i = (tt, (same p q i, (tt, tt)))
 
--- What a weaker contract would leave open. A slice for the examples:
+-- What a weaker contract would leave open. Slices for the examples, one to read and one to write:
 abbrev some : Bor (List ℕ)
 some = record { ref_ptr = (0, 0); now = [] }
+
+abbrev lent : MutBor (List ℕ)
+lent = record { ref_ptr = (0, 0); ghost_name = 0; now = [] }
 
 apart : ¬ (◌≡◌ {A = ℕ} 0 1)
 apart e = omega (arith, e)
 
 -- had `desk_map_state` no `ensures`, it would not be determined
-pub state_unsaid : ¬ Fixes f.desk_map_state.ended (λ κs a r e. Unit {0})
-state_unsaid d = apart (λ i. (nothing_said f.desk_map_state.ended d ([], tt) (some, (0, (0, tt))) (0, (tt, (tt, (tt, tt)))) (1, (tt, (tt, (tt, tt)))) i).0)
+pub state_unsaid : ¬ Fixes c.desk_map_state.ended (λ κs a r e. Unit {0})
+state_unsaid d = apart (λ i. (nothing_said c.desk_map_state.ended d ([], tt) (some, (0, (0, tt))) (0, (tt, (tt, (tt, tt)))) (1, (tt, (tt, (tt, tt)))) i).0)
 
 -- nor would `desk_print`, were its length said alone, whatever it is
-pub buffer_unsaid : (said : (κs : Lfts 2) → Args f.desk_print.signature κs → ℕ) → ¬ Fixes f.desk_print.ended (λ κs a r e. r ≡ said κs a)
+pub buffer_unsaid : (said : (κs : Lfts 2) → Args c.desk_print.signature κs → ℕ) → ¬ Fixes c.desk_print.ended (λ κs a r e. r ≡ said κs a)
 buffer_unsaid said d =
-    apart (λ i. length (result_said f.desk_print.ended (λ κs a r. r ≡ said κs a) d ([], ([], tt)) (some, (some, tt)) (said _ _) refl (tt, ([], tt)) (tt, (0 ∷ [], tt)) i).1.0)
+    apart (λ i. length (result_said c.desk_print.ended (λ κs a r. r ≡ said κs a) d ([], ([], tt)) (some, (lent, tt)) (said _ _) refl (tt, ([], tt)) (tt, (0 ∷ [], tt)) i).1.0)

@@ -1,8 +1,8 @@
 -- What the functions over rows rest on: lists by their places, what a row that holds a machine says, and machines written into rows.
 use Rattle.std.specs.Prelude.{◌≡◌, Bool, true, false, ◌&&◌, ℕ, zero, suc, ◌+◌, ◌*◌, ◌/◌, ◌%◌, ◌≤◌, ◌<◌, get_or, take, drop, replicate, leb, eqb}
 use Rattle.std.proofs.Math.Path.{refl, sym, ap, subst⁻¹}
-use Rattle.std.proofs.Common.{◌∙◌, zero-add, suc-add, add_assoc, arith, length-set, length-take, length-drop, drop_of_length-le, take-append-drop, ext_get_or, get_or-take, get_or-drop, drop-drop, length-take-le, eqb-true, leb-true, le-leb}
-use mathlib.Core.List.{List, [], ◌∷◌, ◌++◌, append-nil, append_assoc}
+use Rattle.std.proofs.Common.{◌∙◌, zero-add, suc-add, add_assoc, arith, length-set, length-take, length-drop, take-append-drop, ext_get_or, get_or-take, get_or-drop, drop-drop, length-take-le, eqb-true, leb-true, le-leb}
+use mathlib.Core.List.{List, [], ◌∷◌, ◌++◌, append_assoc}
 use Rattle.std.proofs.Math.Decide.{ℕ_discrete}
 use Rattle.std.proofs.Math.ListN.{length, set, length-append}
 use Rattle.std.proofs.lemmas.List.{set-get_or, set-append_left}

@@ -19,6 +19,7 @@ mod weights;
 use desk::{Machine, Reply};
 use taskfile::Head;
 
+#[tactic(auto, using(crate::specs::Laws::opened_small), unfolding(crate::specs::Calls::open_row))]
 #[unsafe(no_mangle)]
 pub extern "C" fn desk_open(
     n: usize,
@@ -47,6 +48,7 @@ pub extern "C" fn desk_open(
     desk::code(reply)
 }
 
+#[tactic(auto, unfolding(crate::specs::Calls::turn_of))]
 #[unsafe(no_mangle)]
 pub extern "C" fn desk_take(
     machine: &mut [u32],
@@ -67,6 +69,7 @@ pub extern "C" fn desk_take(
     desk::code(reply)
 }
 
+#[tactic(auto, using(desk::specs::ToldLaws::limited_few, desk::specs::ToldLaws::limited_narrow), unfolding(crate::specs::Calls::take_limited_row))]
 #[unsafe(no_mangle)]
 pub extern "C" fn desk_take_limited(
     machine: &mut [u32],
@@ -89,6 +92,7 @@ pub extern "C" fn desk_take_limited(
     made * 1099511627776 + desk::code(reply)
 }
 
+#[tactic(auto, using(crate::specs::Laws::row_bounds), unfolding(crate::specs::Calls::turn_of))]
 #[unsafe(no_mangle)]
 pub extern "C" fn desk_bring(
     machine: &mut [u32],
@@ -113,6 +117,7 @@ pub extern "C" fn desk_bring(
     desk::code(reply)
 }
 
+#[tactic(auto, using(crate::specs::Laws::row_bounds), unfolding(crate::specs::Calls::morning_row))]
 #[unsafe(no_mangle)]
 pub extern "C" fn desk_morning(
     machine: &mut [u32],
@@ -140,6 +145,7 @@ pub extern "C" fn desk_morning(
     desk::code(reply)
 }
 
+#[tactic(auto, unfolding(crate::specs::Calls::path_row))]
 #[unsafe(no_mangle)]
 pub extern "C" fn desk_path(
     machine: &[u32],
@@ -194,6 +200,7 @@ pub extern "C" fn desk_map_state(text: &[u8], row: usize, column: usize) -> u32
     row::wide16(state)
 }
 
+#[tactic(auto, using(taskfile::specs::Laws::read_small), unfolding(crate::specs::Files::file_row))]
 #[unsafe(no_mangle)]
 pub extern "C" fn desk_file_read(
     file: &[u8],

@@ -18,6 +18,7 @@ pub fn unfit() -> u64
 }
 
 // The numbers from a place on are at most so large.
+#[tactic(auto, using(laws::specs::All::all_zero, laws::specs::All::all_kept, laws::specs::All::all_lost, laws::specs::All::all_whole), unfolding(crate::specs::Row::at_most))]
 pub fn at_most(row: &[u32], from: usize, count: usize, most: u32) -> bool
     requires { from + count ≤ length row.now }
     ensures { result ≡ at_most row.now from count most }
@@ -32,6 +33,7 @@ pub fn at_most(row: &[u32], from: usize, count: usize, most: u32) -> bool
 }
 
 // A row holds a machine. Its keys need no test: each half has 32 bits, as every number of a row has.
+#[tactic(auto, using(crate::specs::Laws::halves_fit), unfolding(crate::specs::Row::is_row))]
 pub fn is_row(row: &[u32]) -> bool
     ensures { result ≡ is_row row.now }
 {
@@ -54,6 +56,7 @@ pub fn is_row(row: &[u32]) -> bool
 }
 
 // The marks.
+#[tactic(auto, using(laws::specs::Fill::filled_whole, crate::specs::Laws::row_bounds), unfolding(crate::specs::Row::part))]
 pub fn marks(row: &[u32]) -> [u8; 256]
     requires { is_row row.now ≡ true }
     ensures { result ≡ part row.now 7 256 }
@@ -66,6 +69,7 @@ pub fn marks(row: &[u32]) -> [u8; 256]
 }
 
 // The labels.
+#[tactic(auto, using(laws::specs::Fill::filled_whole, crate::specs::Laws::row_bounds), unfolding(crate::specs::Row::part))]
 pub fn labels(row: &[u32]) -> [u32; 256]
     requires { is_row row.now ≡ true }
     ensures { result ≡ part row.now 263 256 }
@@ -78,6 +82,7 @@ pub fn labels(row: &[u32]) -> [u32; 256]
 }
 
 // The passage numbers.
+#[tactic(auto, using(laws::specs::Fill::filled_whole, crate::specs::Laws::row_bounds), unfolding(crate::specs::Row::part))]
 pub fn vias(row: &[u32]) -> [u16; 256]
     requires { is_row row.now ≡ true }
     ensures { result ≡ part row.now 519 256 }
@@ -90,6 +95,7 @@ pub fn vias(row: &[u32]) -> [u16; 256]
 }
 
 // The held states.
+#[tactic(auto, using(laws::specs::Fill::filled_whole, crate::specs::Laws::row_bounds), unfolding(crate::specs::Row::part))]
 pub fn held_states(row: &[u32]) -> [u16; 32]
     requires { is_row row.now ≡ true }
     ensures { result ≡ part row.now 775 32 }
@@ -102,6 +108,7 @@ pub fn held_states(row: &[u32]) -> [u16; 32]
 }
 
 // The keys, each from its two halves.
+#[tactic(auto, using(laws::specs::Fill::filled_whole, crate::specs::Laws::row_bounds))]
 pub fn keys(row: &[u32]) -> [u64; 256]
     requires { is_row row.now ≡ true }
     ensures { result ≡ made (key_from row.now) 256 }
@@ -117,6 +124,7 @@ pub fn keys(row: &[u32]) -> [u64; 256]
 }
 
 // The machine that a row holds.
+#[tactic(auto, using(crate::specs::Laws::row_bounds), unfolding(crate::specs::Row::unpacked))]
 pub fn unpack(row: &[u32]) -> Machine
     requires { is_row row.now ≡ true }
     ensures { result ≡ unpacked row.now }
@@ -238,6 +246,7 @@ pub fn put_changing(row: &mut [u32], m: Machine)
 }
 
 // What a Take changes: the mark of the state that it deals and what the worker holds, or the phase. With any other reply nothing is written.
+#[tactic(auto, using(crate::specs::Laws::row_bounds, crate::specs::Laws::put_phase, crate::specs::Laws::put_dealt, crate::specs::Laws::changed_unpacked))]
 pub fn put_taken(row: &mut [u32], worker: usize, reply: Reply)
     requires { (is_row row.old ≡ true) × ((s : ℕ) → reply ≡ Took s → (s < 256) × (worker < 32)) }
     ensures { row.new ≡ changed row.old (taken (unpacked row.old) worker reply) }
