@@ -1,7 +1,7 @@
 -- The answers to a list of events, taken one more at a time, what they leave as it was, and the numbers that replies are in a row.
 use Rattle.std.specs.Prelude.{◌≡◌, Bool, true, false, cond, ℕ, ◌+◌, ◌*◌, ◌/◌, ◌%◌, ◌≤◌, ◌<◌, length, get_or, set, take as front, leb, eqb}
 use Rattle.std.proofs.Math.Path.{refl, ap}
-use Rattle.std.proofs.Common.{sym, ◌∙◌, arith, add-one, length-set, take-suc, take_all, length-take-le}
+use Rattle.std.proofs.Common.{◌∙◌, arith, add-one, length-set, take-suc, take_all, length-take-le}
 use mathlib.Core.List.{List, [], ◌∷◌, ◌++◌, map}
 use Rattle.std.proofs.lemmas.List.{length-map}
 use borrow.Author.Tests.{leb-true, eq-eqb, ne_eqb}
@@ -10,7 +10,6 @@ use Rattle.laws.specs.Part.{overlaid}
 use Rattle.laws.specs.Put.{Put, put_none, put_next, put_one}
 use Rattle.laws.specs.Map.{map_append}
 use Rattle.rule.specs.Refusals.{short_row, no_event}
-use Rattle.checks.specs.Opening.{Task, early_fault}
 use Rattle.dealing.specs.declared.Decision.{Decision}
 use Rattle.dealing.specs.declared.Decision.TheVariants.{Found as FoundAt, NoPath as NoPathLeft, Deal, Stuck, Wait as WaitOn}
 use Rattle.dealing.specs.Decision.{decision}
@@ -19,7 +18,6 @@ use Rattle.desk.specs.declared.Reply.{Reply}
 use Rattle.desk.specs.declared.Reply.TheVariants.{Opened, Took, Brought, Found, NoPath, Wait, Read, Refused, Done, Cut}
 use Rattle.desk.specs.declared.Answer.{Answer}
 use Rattle.desk.specs.Machine.{hands_of, held_by, task_of, board_of}
-use Rattle.desk.specs.Fits.{task_fits}
 use Rattle.desk.specs.Take.{act, take_step, take_of}
 use Rattle.desk.specs.Bring.{bring_step, bring_of}
 use Rattle.desk.specs.Laws.{admitted_either, sweep_leaves}

@@ -1,5 +1,5 @@
 -- Order 8, the stored keys: on a machine that fits they are the keys that Take goes by, and what a call makes of such a machine has right keys too, so that several calls look at them once.
-use Rattle.std.specs.Prelude.{◌≡◌, Bool, true, false, cond, ◌&&◌, ℕ, ◌+◌, ◌≤◌, ◌<◌, length, get_or, set, replicate, eqb}
+use Rattle.std.specs.Prelude.{◌≡◌, Bool, true, false, cond, ℕ, ◌+◌, ◌≤◌, ◌<◌, length, get_or, set, replicate, eqb}
 use Rattle.std.proofs.Math.Path.{refl, subst⁻¹}
 use Rattle.std.proofs.Common.{sym, ap, ◌∙◌, get_or-set_same}
 use mathlib.Core.List.{List, [], ◌∷◌}
@@ -9,18 +9,18 @@ use Rattle.std.proofs.Math.ListN.{length-set}
 use Rattle.std.proofs.lemmas.List.{length-replicate, get_or-replicate}
 use Rattle.std.proofs.Math.Seq.{get_or-set_other}
 use borrow.Author.Tests.{eqb-true, eqb-false, eq-eqb, ne_eqb, not-true}
-use Rattle.laws.specs.Truth.{and_left, and_right, and_both}
+use Rattle.laws.specs.Truth.{and_left, and_both}
 use Rattle.laws.specs.All.{all_at, all_of}
 use Rattle.laws.specs.Fold.{fold_stays}
 use Rattle.rule.specs.Task.{passage_count, far, cost, estimate}
-use Rattle.rule.specs.Marks.{unseen, waiting, out, finished, none, is_open, is_out}
+use Rattle.rule.specs.Marks.{unseen, waiting, out, finished, none}
 use Rattle.rule.specs.Rule.{key_of, stored_key}
 use Rattle.checks.specs.Opening.{Task, early_fault, fault}
 use Rattle.checks.specs.Fits.{key_right, keys_right}
 use Rattle.checks.specs.Laws.{right, fault_none, far_in, worker_holds}
 use Rattle.dealing.specs.declared.Decision.{Decision}
 use Rattle.dealing.specs.declared.Decision.TheVariants.{Found as FoundAt, NoPath as NoPathLeft, Deal, Stuck, Wait as WaitOn}
-use Rattle.dealing.specs.Board.{key, mark_at}
+use Rattle.dealing.specs.Board.{key}
 use Rattle.dealing.specs.Decision.{decision}
 use Rattle.dealing.specs.Laws.{Keyed, safe_is_open, deal_in, deal_safe}
 use Rattle.desk.specs.declared.Machine.{Machine}
@@ -33,7 +33,7 @@ use Rattle.desk.specs.Opening.{opened_machine, blank_machine, opening_of}
 use Rattle.desk.specs.Take.{dealt, act, take_step, take_of}
 use Rattle.desk.specs.Bring.{Swept, swept, labelled, apply_passage, sweep_of, bring_step, bring_of}
 use Rattle.desk.specs.Calls.{Event, take, bring, call, after, answers}
-use Rattle.desk.specs.Laws.{start_in, Sized, Fitting, fitting, Admitted, admitted_either, apply_either, sweep_leaves}
+use Rattle.desk.specs.Laws.{start_in, Sized, Fitting, fitting, admitted_either, apply_either, sweep_leaves}
 
 -- a state that isn't unseen has its key stored
 pub stored_seen : (mark label pull h : ℕ) → (mark ≡ unseen → ⊥) → stored_key mark label pull h ≡ key_of label pull h

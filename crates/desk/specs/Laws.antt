@@ -1,6 +1,6 @@
 -- What the inner functions of the calls ask, what a machine that fits gives them, and what Bring's loop knows.
-use Rattle.std.specs.Prelude.{◌≡◌, Bool, not, ◌&&◌, cond, List, [], ◌++◌, ℕ, ◌+◌, ◌-◌, ◌≤◌, ◌<◌, length, get_or, drop, ltb, leb, eqb}
-use Rattle.std.proofs.Math.Path.{refl, ap, subst⁻¹}
+use Rattle.std.specs.Prelude.{◌≡◌, Bool, not, ◌&&◌, List, [], ◌++◌, ℕ, ◌+◌, ◌-◌, ◌≤◌, ◌<◌, length, get_or, drop, ltb, leb, eqb}
+use Rattle.std.proofs.Math.Path.{refl, ap}
 use Rattle.std.proofs.Common.{sym, ◌∙◌, arith}
 use Rattle.std.proofs.Math.Bool.{true, false}
 use borrow.Author.Tests.{eqb-true, eqb-false, ltb-true, leb-true, not-true, eq-eqb, ne_eqb, lt-ltb, le-leb, lt-leb}
@@ -24,11 +24,10 @@ use Rattle.dealing.specs.declared.Decision.TheVariants.{Found, NoPath, Deal, Stu
 use Rattle.trail.specs.Trail.{path}
 use Rattle.trail.specs.Laws.{Inside, Followed, states_back, path_followed, path_states}
 use Rattle.desk.specs.declared.Machine.{Machine}
-use Rattle.desk.specs.declared.Reply.TheVariants.{Opened, Read}
+use Rattle.desk.specs.declared.Reply.TheVariants.{Read}
 use Rattle.desk.specs.Machine.{with_mark, with_label, with_via, with_key, task_of, trail_of, label_of, key_for, hands_of, held_by}
 use Rattle.desk.specs.declared.Answer.{Answer}
-use Rattle.desk.specs.Reply.{answer, refused, refusal_of}
-use Rattle.desk.specs.Opening.{opened_machine, blank_machine, opening_of}
+use Rattle.desk.specs.Reply.{answer, refused}
 use Rattle.desk.specs.Fits.{rows_fit, task_fits, keys_fit, is_sound, fits}
 use Rattle.desk.specs.Admission.{admitted}
 use Rattle.desk.specs.Bring.{Swept, swept, labelled, apply_passage, sweep_of, finish, bring_step}

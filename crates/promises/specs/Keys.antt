@@ -14,7 +14,7 @@ use Rattle.desk.specs.Machine.{hands_of, mark_of, label_of, board_of}
 use Rattle.desk.specs.Fits.{task_fits, keys_fit, is_sound, rows_fit, fits}
 use Rattle.desk.specs.Laws.{fitting}
 use Rattle.desk.specs.KeyLaws.{keyed, key_at_lem}
-use Rattle.promises.specs.Day.{Call, reached}
+use Rattle.promises.specs.Day.{reached}
 use Rattle.promises.specs.Demand.{Accepted, ByStored, KeysKept}
 use Rattle.promises.specs.Fits.{steady_fits}
 use Rattle.promises.specs.Theorem.{run}

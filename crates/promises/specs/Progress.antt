@@ -8,7 +8,7 @@ use Rattle.std.proofs.Math.Bool.{true, false, not, true≢false}
 use Rattle.std.proofs.Math.Decide.{ℕ_discrete}
 use Rattle.std.proofs.Math.Dec.{ltb}
 use borrow.Author.Tests.{ltb-true, ltb-false, leb-true, eqb-true, ne_eqb, le-leb, not-false}
-use Rattle.laws.specs.Truth.{and_left, and_right, or_either}
+use Rattle.laws.specs.Truth.{and_right, or_either}
 use Rattle.laws.specs.First.{first_before, first_none, any_none, any_some}
 use Rattle.laws.specs.Least.{least, IsLeast, least_is}
 use Rattle.rule.specs.Marks.{waiting, is_open, is_out, is_live}
