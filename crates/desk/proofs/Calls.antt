@@ -28,7 +28,8 @@ module _ (m : Machine) (passages estimates : List ℕ) (worker : ℕ) (sound : B
   in_rows d e = subst⁻¹ Placed e (placed m.goal m.pull (board_of m estimates) facts.task.states)
 
   -- once it is decided, the answer is what `act` makes of the decision
-  pub acts : held_by (hands_of m) worker ≡ none → (d : Decision) → d ≡ decision m.goal m.pull (board_of m estimates) → act m (hands_of m) worker d ≡ take_of m passages estimates worker
+  pub acts : held_by (hands_of m) worker ≡ none → (d : Decision) → d ≡ decision m.goal m.pull (board_of m estimates)
+      → act m (hands_of m) worker d ≡ take_of m passages estimates worker
   unfolding take_of take_step
   acts h d e = ap (act m (hands_of m) worker) e ∙ goes_on m (hands_of m) passages estimates worker _ _ let_in (eq-eqb _ none h)
 
@@ -37,7 +38,8 @@ module _ (m : Machine) (passages estimates : List ℕ) (worker : ℕ) (sound : B
   carries h state e = subst⁻¹ (λ (x : ℕ). Carried m passages estimates x) e (carried m (hands_of m) passages estimates worker facts let_in.worker_in h)
 
 -- the far end of a passage is a state, with a place in the rows
-module _ (m : Machine) (passages estimates : List ℕ) (state : ℕ) (k : Carried m passages estimates state) (i end : ℕ) (l : i < passage_count passages) (e : end ≡ far passages i) where
+module _ (m : Machine) (passages estimates : List ℕ) (state : ℕ) (k : Carried m passages estimates state)
+    (i end : ℕ) (l : i < passage_count passages) (e : end ≡ far passages i) where
   pub far_state : end < m.n
   far_state = rw e (k.fars i l)
 

@@ -83,14 +83,15 @@ loop-i-preserved c =
     elim c.if-near-s.branch [
       | then-near-s+then-is_clear+then-lowers w ↦
           rw (w.self-is, w.many-is)
-          (run_set _ _ _ _ _ _ c.loop-i.i c.loop-i.invariant c.loop-i-test.true (sym c.near.ensures ∙ w.if-near-s.true) (sym w.is_clear.ensures ∙ w.if-is_clear.true) _ _ w.far-far.ensures
-          (ap plus w.cost.ensures) _ (rw w.estimate-h.ensures at w.key.ensures) (sym w.lowers.ensures ∙ w.if-lowers.true))
+          (run_set _ _ _ _ _ _ c.loop-i.i c.loop-i.invariant c.loop-i-test.true (sym c.near.ensures ∙ w.if-near-s.true) (sym w.is_clear.ensures ∙ w.if-is_clear.true)
+          _ _ w.far-far.ensures (ap plus w.cost.ensures) _ (rw w.estimate-h.ensures at w.key.ensures) (sym w.lowers.ensures ∙ w.if-lowers.true))
       | then-near-s+then-is_clear+else-lowers w ↦
           rw (w.self-is, w.many-is)
-          (run_kept _ _ _ _ _ _ c.loop-i.i c.loop-i.invariant c.loop-i-test.true (sym c.near.ensures ∙ w.if-near-s.true) (sym w.is_clear.ensures ∙ w.if-is_clear.true) _ _ w.far-far.ensures
-          (ap plus w.cost.ensures) (sym w.lowers.ensures ∙ w.if-lowers.false))
+          (run_kept _ _ _ _ _ _ c.loop-i.i c.loop-i.invariant c.loop-i-test.true (sym c.near.ensures ∙ w.if-near-s.true) (sym w.is_clear.ensures ∙ w.if-is_clear.true)
+          _ _ w.far-far.ensures (ap plus w.cost.ensures) (sym w.lowers.ensures ∙ w.if-lowers.false))
       | then-near-s+else-is_clear w ↦
-          rw (w.self-is, w.many-is) (run_blocked _ _ _ _ _ _ c.loop-i.i c.loop-i.invariant c.loop-i-test.true (sym c.near.ensures ∙ w.if-near-s.true) (sym w.is_clear.ensures ∙ w.if-is_clear.false))
+          rw (w.self-is, w.many-is)
+          (run_blocked _ _ _ _ _ _ c.loop-i.i c.loop-i.invariant c.loop-i-test.true (sym c.near.ensures ∙ w.if-near-s.true) (sym w.is_clear.ensures ∙ w.if-is_clear.false))
       | else-near-s w ↦ rw (w.self-is, w.many-is) (run_skip _ _ _ _ _ _ c.loop-i.i c.loop-i.invariant c.loop-i-test.true (λ q. w.if-near-s.false (c.near.ensures ∙ q)))
     ]
 
