@@ -6,4 +6,3 @@ pub mod Laws
 pub mod LineLaws
 pub mod SessionLaws
 pub mod Status
-pub mod StatusLaws

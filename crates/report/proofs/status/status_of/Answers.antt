@@ -2,7 +2,7 @@
 use Rattle.std.proofs.Common.{sym, arith}
 use Rattle.std.proofs.Math.Seq.{length-take-le}
 use Rattle.report.specs.SessionLaws.{reading_bounds}
-use Rattle.report.specs.StatusLaws.{status_fault, status_run, status_refused}
+use Rattle.report.proofs.StatusLaws.{status_fault, status_run, status_refused}
 use Rattle.report.proofs.status.status_of.Goals as goal
 
 pub overflow_mul-p : goal.overflow_mul-p
