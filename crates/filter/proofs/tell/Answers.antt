@@ -8,5 +8,5 @@ pub slice_bounds-drain-end-2 : goal.slice_bounds-drain-end-2
 slice_bounds-drain-end-2 c =
     let room : length c.report-many.new.out ≡ length c.args.text.now = c.report-many.auto.out in
     let fits : c.report-many.result ≤ length c.report-many.new.out =
-      omega (arith, c.report-many.ensures.value, report_within _ _ (sym (ap length c.report-many.ensures.out_after) ∙ room)) in
+    omega (arith, c.report-many.ensures.value, report_within _ _ (sym (ap length c.report-many.ensures.out_after) ∙ room)) in
     sym (length-take-le _ _ fits)
