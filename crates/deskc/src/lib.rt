@@ -19,7 +19,7 @@ mod weights;
 use desk::{Machine, Reply};
 use taskfile::Head;
 
-#[tactic(auto, using(crate::specs::Laws::opened_small), unfolding(crate::specs::Calls::open_row))]
+#[tactic(auto, using(crate::proofs::Rules::opens), unfolding(crate::specs::Calls::open_row))]
 #[unsafe(no_mangle)]
 pub extern "C" fn desk_open(
     n: usize,
@@ -48,7 +48,7 @@ pub extern "C" fn desk_open(
     desk::code(reply)
 }
 
-#[tactic(auto, unfolding(crate::specs::Calls::turn_of))]
+#[tactic(auto, using(desk::specs::ToldLaws::take_placed, crate::specs::Laws::turn_told), unfolding(crate::specs::Calls::turn_of))]
 #[unsafe(no_mangle)]
 pub extern "C" fn desk_take(
     machine: &mut [u32],
@@ -69,7 +69,7 @@ pub extern "C" fn desk_take(
     desk::code(reply)
 }
 
-#[tactic(auto, using(desk::specs::ToldLaws::limited_few, desk::specs::ToldLaws::limited_narrow), unfolding(crate::specs::Calls::take_limited_row))]
+#[tactic(auto, using(crate::proofs::Rules::counts), unfolding(crate::specs::Calls::take_limited_row))]
 #[unsafe(no_mangle)]
 pub extern "C" fn desk_take_limited(
     machine: &mut [u32],

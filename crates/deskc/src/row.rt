@@ -18,7 +18,7 @@ pub fn unfit() -> u64
 }
 
 // The numbers from a place on are at most so large.
-#[tactic(auto, using(laws::specs::All::all_zero, laws::specs::All::all_kept, laws::specs::All::all_lost, laws::specs::All::all_whole), unfolding(crate::specs::Row::at_most))]
+#[tactic(auto, using(crate::proofs::Rules::goes_on), unfolding(crate::specs::Row::at_most))]
 pub fn at_most(row: &[u32], from: usize, count: usize, most: u32) -> bool
     requires { from + count ≤ length row.now }
     ensures { result ≡ at_most row.now from count most }
@@ -233,6 +233,7 @@ pub fn put_keys(row: &mut [u32], key: &[u64; 256])
 }
 
 // What a call can change: the phase and the numbers of states and workers.
+#[tactic(auto, using(crate::specs::Laws::changed_parts))]
 pub fn put_changing(row: &mut [u32], m: Machine)
     requires { length row.old ≡ 1319 }
     ensures { row.new ≡ changed row.old m }
