@@ -1,5 +1,5 @@
 // `deskrun` as a program of Rattle alone, which `rt ci` builds and runs: a task file in, the printed lines out. It ends with status 0
-// whatever the file; `exits` is the program that passes the number on, and that ./deskrun runs. Both are this one call.
+// whatever the file; `exits` is the program that passes the number on, and that ./deskrun runs.
 #![tactic(auto)]
 
 fn main(rt: HostRuntime) {

@@ -1,7 +1,7 @@
 -- What it is for a contract to determine its answer. `crates/NAME/proofs/Determined.antt` shows it of every function of the crate NAME, inner ones too.
 --
 -- Of each function f Rattle makes from the source what the proofs of its callers go by:
---     f.ended          its parameters and its result
+--     c.f.ended        its parameters and its result, beside its contract
 --     f.Reads.Asked    what a caller has to show: the claims of the `requires` clauses
 --     f.Reads.Learnt   what a caller then knows of the result and of the parameters at exit: the claims of the `ensures` clauses
 -- They are the contract here, and no clause is copied by hand: what is deleted or changed in src/ is deleted or changed in `Learnt`.
@@ -14,7 +14,7 @@
 --     a `requires` more           `Answers` has it shown of whatever is passed
 -- That there is an answer at all is the function's own theorem. That it is the right one is for the reader of the clause to say.
 --
--- How the lines of a `Determined.antt` are read: f has the crate's functions, x and y are two outcomes, and p and q what the contract says of each. The proof is a way from x to y, whose point i it gives part by part: the result, then
+-- How the lines of a `Determined.antt` are read: c has the contracts of the crate's functions and f what is proved of them, x and y are two outcomes, and p and q what the contract says of each. The proof is a way from x to y, whose point i it gives part by part: the result, then
 -- for each parameter the last value of a `&mut` and `tt` for any other, and a `tt` that ends the list. Where nothing is lent to be written `x.1` is all of the list. `λ κs a. tt` says that nothing is asked.
 -- Assumes nothing.
 use Rattle.std.specs.Prelude.{◌≡◌}

@@ -1,4 +1,4 @@
--- What a run of `deskrun` comes to, as far as the lent buffers show it. Which bytes a call of the C library reads or writes no contract can say.
+-- What a run of `deskrun` comes to, as far as the lent buffers show it. Which bytes the system gives or takes no contract can say.
 use Rattle.std.specs.Prelude.{◌≡◌, ◌⊎◌, List, ℕ, ◌≤◌, length, take}
 use Rattle.report.specs.Text.{report_buffer}
 use Rattle.report.specs.Status.{status_of}
