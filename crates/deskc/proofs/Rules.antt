@@ -1,10 +1,6 @@
--- The laws that a function here takes several of, under one name for its attribute: of a loop over `all` that goes on to the end,
--- of an opening, and of a limited Take.
-use Rattle.laws.specs.All.{all_zero, all_kept, all_lost, all_whole}
+-- The laws that a function here takes several of, under one name for its attribute: of an opening, and of a limited Take.
 use Rattle.desk.specs.ToldLaws.{limited_dealt, limited_few, limited_narrow}
 use Rattle.deskc.specs.Laws.{packed_parts, opened_small, opened_sized, opening_clamped, counting_told}
-
-pub ruleset goes_on = (all_zero, all_kept, all_lost, all_whole)
 
 pub ruleset opens = (opened_small, opened_sized, opening_clamped, packed_parts)
 

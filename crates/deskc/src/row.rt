@@ -18,7 +18,7 @@ pub fn unfit() -> u64
 }
 
 // The numbers from a place on are at most so large.
-#[tactic(auto, using(crate::proofs::Rules::goes_on), unfolding(crate::specs::Row::at_most))]
+#[tactic(auto, using(checks::proofs::Loops::goes_on), unfolding(crate::specs::Row::at_most))]
 pub fn at_most(row: &[u32], from: usize, count: usize, most: u32) -> bool
     requires { from + count ≤ length row.now }
     ensures { result ≡ at_most row.now from count most }

@@ -1,29 +1,27 @@
 -- An end of a passage puts its three numbers behind those that stand there, for which there is room.
-use Rattle.std.proofs.Common.{sym, ◌∙◌, ◌*◌, ◌≤◌, ◌<◌, arith, length-set}
+use Rattle.std.proofs.Common.{length, sym, ◌∙◌, ◌+◌, ◌*◌, ◌≤◌, ◌<◌, arith, length-set}
 use Rattle.gridmap.specs.Map.{state_count}
 use Rattle.gridmap.specs.Laws.{map_with}
 use Rattle.gridmap.specs.WritingLaws.{puts_zero, puts_skip, puts_room, puts_more, puts_end}
 use Rattle.gridmap.proofs.neighbours.put_passages.Goals as goal
-use Rattle.gridmap.proofs.neighbours.put_passages.Goals.{then-is_passage, else-is_passage}
+use Rattle.gridmap.proofs.neighbours.put_passages.Goals.{After-leads_to, then-is_passage, else-is_passage}
 
 pub loop-j-init : goal.loop-j-init
 loop-j-init c = puts_zero _ _ c.requires.1.1.1.1
 
-pub bounds-passages-next-then-is_passage : goal.bounds-passages-next-then-is_passage
-bounds-passages-next-then-is_passage c =
+-- three places are free behind those that stand there
+its_room : (c : After-leads_to) → c.loop-j.next + 3 ≤ length c.loop-j.passages
+its_room c =
     let low : c.loop-j.j ≤ 8 * state_count (map_with c.args.text.now c.args.h) = omega (arith, c.requires.1.1.0.high) in
     let lower : c.loop-j.j < 8 * state_count (map_with c.args.text.now c.args.h) = omega (arith, c.requires.1.1.0.high) in
     let here = sym c.is_passage.ensures ∙ c.if-is_passage.true in
-    let room = puts_room (map_with c.args.text.now c.args.h) _ c.requires.1.1.1.1 c.loop-j.j _ _ c.loop-j.invariant low lower here in
-    simp length-set (omega (arith, room))
+    puts_room (map_with c.args.text.now c.args.h) _ c.requires.1.1.1.1 c.loop-j.j _ _ c.loop-j.invariant low lower here
+
+pub bounds-passages-next-then-is_passage : goal.bounds-passages-next-then-is_passage
+bounds-passages-next-then-is_passage c = simp length-set (omega (arith, its_room (goal.at.bounds-passages-next-then-is_passage c).After-leads_to))
 
 pub bounds-passages-next-then-is_passage-2 : goal.bounds-passages-next-then-is_passage-2
-bounds-passages-next-then-is_passage-2 c =
-    let low : c.loop-j.j ≤ 8 * state_count (map_with c.args.text.now c.args.h) = omega (arith, c.requires.1.1.0.high) in
-    let lower : c.loop-j.j < 8 * state_count (map_with c.args.text.now c.args.h) = omega (arith, c.requires.1.1.0.high) in
-    let here = sym c.is_passage.ensures ∙ c.if-is_passage.true in
-    let room = puts_room (map_with c.args.text.now c.args.h) _ c.requires.1.1.1.1 c.loop-j.j _ _ c.loop-j.invariant low lower here in
-    simp length-set (omega (arith, room))
+bounds-passages-next-then-is_passage-2 c = simp length-set (omega (arith, its_room (goal.at.bounds-passages-next-then-is_passage-2 c).After-leads_to))
 
 pub loop-j-preserved : goal.loop-j-preserved
 loop-j-preserved c =
