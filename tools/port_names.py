@@ -1,7 +1,7 @@
 #!/usr/bin/env python3
 """Brings the names of this repository's own definitions and lemmas to the spelling of today's Rattle: words in snake case.
 
-usage: tools/port_names.py        at the top of the repository, once, after /opt/rattle/port/port.py and before any edit by hand
+usage: tools/port_names.py        at the top of the repository, once, after the kit's port.py and before any edit by hand
 
 Renamed are the functions, lemmas and fields that a file of crates/NAME/specs/ or crates/NAME/proofs/ declares, wherever a file of the crates, a
 must-fail edit or a page of docs/ names them, and, within its own file, what a proof of a function declares for itself. Types, records and modules
