@@ -58,7 +58,7 @@
  * them. A row, a buffer or another slice that a call writes to belongs to that call until it returns.
  *
  * Stack. A call needs at most DESK_STACK_.. bytes of stack below its caller's frame, whatever it is given: what was
- * measured, the dynamic linker's work at a first call included, and an eighth of that or more besides. A thread needs
+ * measured, the dynamic linker's work at a first call included, and a quarter of that or more besides. A thread needs
  * more than its calls do: the C library keeps records of its own there, and signal handlers run there.
  */
 #ifndef ROUTE_DESK_H

@@ -2,7 +2,7 @@
  * exactly the size that route_desk.h states for it, above closed pages, and in a process of its own, in which memcpy
  * and its like are not bound yet: the dynamic linker's work at their first use is measured too. The stack was painted
  * before, and the lowest place that is not as it was painted shows the need. Fails where a call needs more than is
- * stated, or where the room left is less than an eighth of its need. */
+ * stated, or where the room left is less than a quarter of its need. */
 #define _DEFAULT_SOURCE
 #include <stdio.h>
 #include <stdlib.h>
@@ -320,7 +320,7 @@ int main(void) {
     copy_file();
     for (int i = 0; i < STACKS; i++) {
         size_t bytes = need(stacks[i]);
-        int tight = bytes + bytes / 8 > stacks[i]->size;
+        int tight = bytes + bytes / 4 > stacks[i]->size;
         printf("stack: %s needs %zu of the %zu bytes stated%s\n", stacks[i]->call, bytes, stacks[i]->size,
                tight ? ", which leaves too little room" : "");
         failed |= tight;

@@ -23,28 +23,33 @@ passages_right = (λ κs a. tt, λ κs a x y p q i. (same p q i, x.1))
 pub row_right : Fixes c.opening.row_right.ended f.opening.row_right.Reads.Learnt
 row_right κs a x y p q i = (same p q i, x.1)
 
-pub estimates_right : Fixes c.opening.estimates_right.ended f.opening.estimates_right.Reads.Learnt
-estimates_right κs a x y p q i = (same p q i, x.1)
+pub estimates_right : Answers c.opening.estimates_right.ended f.opening.estimates_right.Reads.Asked f.opening.estimates_right.Reads.Learnt
+estimates_right = (λ κs a. tt, λ κs a x y p q i. (same p q i, x.1))
 
 pub passages_bound : Fixes c.opening.passages_bound.ended f.opening.passages_bound.Reads.Learnt
 passages_bound κs a x y p q i = (same p q i, x.1)
 
-pub detours_by : Fixes c.opening.detours_by.ended f.opening.detours_by.Reads.Learnt
-detours_by κs a x y p q i = (same p q i, x.1)
-
 pub largest_from : Fixes c.opening.largest_from.ended f.opening.largest_from.Reads.Learnt
 largest_from κs a x y p q i = (same p q i, x.1)
 
-pub detours_from : Fixes c.opening.detours_from.ended f.opening.detours_from.Reads.Learnt
+-- detours.rt
+pub detour_bounds : Fixes c.detours.BoundedTable.detour_bounds.ended f.detours.BoundedTable.detour_bounds.Reads.Learnt
+detour_bounds κs a x y p q i = (same p q i, x.1)
+
+pub detours_by : Fixes c.detours.BoundedTable.detours_by.ended f.detours.BoundedTable.detours_by.Reads.Learnt
+detours_by κs a x y p q i = (same p q i, x.1)
+
+pub detours_from : Fixes c.detours.BoundedTable.detours_from.ended f.detours.BoundedTable.detours_from.Reads.Learnt
 detours_from κs a x y p q i = (same p q i, x.1)
 
-pub detours_bound : Fixes c.opening.detours_bound.ended f.opening.detours_bound.Reads.Learnt
-detours_bound κs a x y p q i = (same p q i, x.1)
+pub detours_bound : Answers c.detours.BoundedTable.detours_bound.ended f.detours.BoundedTable.detours_bound.Reads.Asked f.detours.BoundedTable.detours_bound.Reads.Learnt
+detours_bound = (λ κs a. tt, λ κs a x y p q i. (same p q i, x.1))
 
-pub early_fault : Answers c.opening.early_fault.ended f.opening.early_fault.Reads.Asked f.opening.early_fault.Reads.Learnt
+-- task.rt
+pub early_fault : Answers c.task.Task.early_fault.ended f.task.Task.early_fault.Reads.Asked f.task.Task.early_fault.Reads.Learnt
 early_fault = (λ κs a. tt, λ κs a x y p q i. (same p q i, x.1))
 
-pub fault : Answers c.opening.fault.ended f.opening.fault.Reads.Asked f.opening.fault.Reads.Learnt
+pub fault : Answers c.task.Task.fault.ended f.task.Task.fault.Reads.Asked f.task.Task.fault.Reads.Learnt
 fault = (λ κs a. tt, λ κs a x y p q i. (same p q i, x.1))
 
 -- fits.rt

@@ -1,3 +1,2 @@
--- Beside the proofs of the functions: that each contract determines its answer, and the laws that several functions name.
+-- Beside the proofs of the functions: that each contract determines its answer.
 pub mod Determined
-pub mod Loops

@@ -1,5 +1,5 @@
 -- What a task, a passage slice, a table or a machine's rows have once they passed the checks, as facts for the callers.
-use Rattle.std.specs.Prelude.{◌≡◌, refl, Bool, true, false, ◌&&◌, ◌||◌, not, List, ℕ, ◌+◌, ◌*◌, ◌%◌, ◌≤◌, ◌<◌, length, set, replicate, ltb, leb}
+use Rattle.std.specs.Prelude.{◌≡◌, refl, Bool, true, false, ◌&&◌, ◌||◌, not, List, ℕ, ◌+◌, ◌*◌, ◌%◌, ◌≤◌, ◌<◌, length, set, replicate, ltb, leb, Result, Ok, Err}
 use Rattle.std.proofs.Math.Path.{sym, ap}
 use Rattle.std.proofs.Common.{◌∙◌, ⊎_elim, arith, get_or-set_same}
 use Rattle.std.proofs.Math.Decide.{ℕ_discrete}
@@ -8,13 +8,14 @@ use Rattle.std.proofs.lemmas.List.{length-replicate, get_or-replicate}
 use Rattle.std.proofs.Math.Seq.{get_or-set_other}
 use Rattle.std.proofs.Math.Dec.{eqb}
 use borrow.Author.Tests.{ltb-true, leb-true, eqb-true, eq-eqb, ne_eqb, le-leb}
-use Rattle.laws.specs.Truth.{and_left, and_right, or_either, provided, provided_kept}
+use Rattle.laws.specs.Truth.{and_left, and_right, or_either, provided, provided_ok, not_refused}
 use Rattle.laws.specs.Count.{count_zero, count_yes, count_no, count_max}
 use Rattle.laws.specs.LargestLaws.{largest, largest_at}
-use Rattle.laws.specs.All.{all, all_at, all_stop, all_of}
+use Rattle.laws.specs.All.{all, all_at, all_of}
 use Rattle.rule.specs.Task.{passage_count, near, far, cost, is_clear, estimate}
 use Rattle.rule.specs.Laws.{WholeTable}
-use Rattle.rule.specs.Refusals.{bad_sizes, bad_ends, bad_weights, bad_passage, bad_estimate, above_passage, above_detour}
+use Rattle.rule.specs.declared.refusals.Refusal.{Refusal}
+use Rattle.rule.specs.declared.refusals.Refusal.TheVariants.{BadSizes, BadEnds, BadWeights, BadPassage, BadEstimate, AbovePassage, AboveDetour}
 use Rattle.rule.specs.Marks.{is_out, none}
 use Rattle.checks.specs.Opening.{Task, sizes_right, ends_right, weights_right, passage_right, passages_right, row_right, estimates_right, detours_by, early_fault, fault, holds1, holds2, holds3, holds4, holds5, holds6, holds7}
 use Rattle.checks.specs.Fits.{worker_right, labels_right, workers_right, holders}
@@ -41,16 +42,16 @@ pub record Early (t : Task) : Type 0 where
   pub third : holds3 t ≡ true
   pub fourth : holds4 t ≡ true
 
-pub early : (t : Task) → early_fault t ≡ 0 → Early t
+pub early : (t : Task) → early_fault t ≡ Ok tt → Early t
 unfolding early_fault
 early t e =
-    let a = provided_kept (holds1 t) bad_sizes _ (λ q. omega arith) e in
-    let b = provided_kept (holds2 t) bad_ends _ (λ q. omega arith) a.1 in
-    let c = provided_kept (holds3 t) bad_weights _ (λ q. omega arith) b.1 in
-    let d = provided_kept (holds4 t) bad_passage 0 (λ q. omega arith) c.1 in
+    let a = provided_ok (holds1 t) BadSizes _ e in
+    let b = provided_ok (holds2 t) BadEnds _ a.1 in
+    let c = provided_ok (holds3 t) BadWeights _ b.1 in
+    let d = provided_ok (holds4 t) BadPassage _ c.1 in
     record { first = a.0; second = b.0; third = c.0; fourth = d.0 }
 
-pub right : (t : Task) → early_fault t ≡ 0 → Right t
+pub right : (t : Task) → early_fault t ≡ Ok tt → Right t
 unfolding sizes_right ends_right weights_right
 right t e =
     let h = early t e in
@@ -78,34 +79,34 @@ pub whole : (t : Task) → Right t → WholeTable t.estimates t.n
 whole t r = record { states = r.states; table = r.table }
 
 -- where 1 to 4 apply to nothing, 5 to 7 decide
-pub fault_late : (t : Task) → early_fault t ≡ 0 → fault t ≡ provided (holds5 t) bad_estimate (provided (holds6 t) above_passage (provided (holds7 t) above_detour 0))
+pub fault_late : (t : Task) → early_fault t ≡ Ok tt → fault t ≡ provided (holds5 t) (Err BadEstimate) (provided (holds6 t) (Err AbovePassage) (provided (holds7 t) (Err AboveDetour) (Ok tt)))
 unfolding fault
 fault_late t e = let h = early t e in rw (h.first, h.second, h.third, h.fourth)
 
 -- the ladder of 1 to 4, over what stands past it
-abbrev ladder : Bool → Bool → Bool → Bool → ℕ → ℕ
-ladder a b c d late = provided a bad_sizes (provided b bad_ends (provided c bad_weights (provided d bad_passage late)))
+abbrev ladder : Bool → Bool → Bool → Bool → Result (Unit {0}) Refusal → Result (Unit {0}) Refusal
+ladder a b c d late = provided a (Err BadSizes) (provided b (Err BadEnds) (provided c (Err BadWeights) (provided d (Err BadPassage) late)))
 
 -- where it stops, it doesn't depend on that
-ladder_stops : (a b c d : Bool) (late : ℕ) → (ladder a b c d 0 ≡ 0 → ⊥) → ladder a b c d 0 ≡ ladder a b c d late
-ladder_stops false b c d late n = refl
-ladder_stops true false c d late n = refl
-ladder_stops true true false d late n = refl
-ladder_stops true true true false late n = refl
-ladder_stops true true true true late n = absurd (n refl)
+ladder_stops : (a b c d : Bool) (late : Result (Unit {0}) Refusal) (refusal : Refusal) → ladder a b c d (Ok tt) ≡ Err refusal → Err refusal ≡ ladder a b c d late
+ladder_stops false b c d late refusal e = sym e
+ladder_stops true false c d late refusal e = sym e
+ladder_stops true true false d late refusal e = sym e
+ladder_stops true true true false late refusal e = sym e
+ladder_stops true true true true late refusal e = absurd (not_refused e)
 
 -- where one of 1 to 4 applies, it is the one given
-pub fault_early : (t : Task) → (early_fault t ≡ 0 → ⊥) → early_fault t ≡ fault t
+pub fault_early : (t : Task) (refusal : Refusal) → early_fault t ≡ Err refusal → Err refusal ≡ fault t
 unfolding early_fault fault
-fault_early t n = ladder_stops (holds1 t) (holds2 t) (holds3 t) (holds4 t) _ n
+fault_early t refusal e = ladder_stops (holds1 t) (holds2 t) (holds3 t) (holds4 t) _ refusal e
 
 -- what opening accepts passes 1 to 4
-pub fault_none : (t : Task) → fault t ≡ 0 → early_fault t ≡ 0
-fault_none t z = go (ℕ_discrete (early_fault t) 0)
+pub fault_none : (t : Task) → fault t ≡ Ok tt → early_fault t ≡ Ok tt
+fault_none t z = go (early_fault t) refl
   where
-    go : Dec (early_fault t ≡ 0) → early_fault t ≡ 0
-    go (yes e) = e
-    go (no n) = fault_early t n ∙ z
+    go : (r : Result (Unit {0}) Refusal) → early_fault t ≡ r → early_fault t ≡ Ok tt
+    go (Ok u) e = e
+    go (Err refusal) e = absurd (not_refused (sym z ∙ sym (fault_early t refusal e)))
 
 -- of a passage slice that passed check 4
 module _ (passages : List ℕ) (n : ℕ) (e : passages_right passages n ≡ true) (i : ℕ) (l : i < passage_count passages) where
@@ -125,10 +126,6 @@ module _ (passages : List ℕ) (n : ℕ) (e : passages_right passages n ≡ true
   pub cost_in : is_clear passages i ≡ true → cost passages i ≤ 1000000
   cost_in k = leb-true _ _ (rw k at (and_right (ltb (near passages i) n && ltb (far passages i) n) (not (is_clear passages i) || leb (cost passages i) 1000000) passage_at_lem))
 
--- an estimate that is too large settles its row
-pub row_stop : (estimates : List ℕ) (n a b : ℕ) → leb (estimate estimates n a b) 255000000 ≡ false → b < n → false ≡ row_right estimates n a
-row_stop estimates n a b e l = rw (← all_stop (λ b. leb (estimate estimates n a b) 255000000) b n e l)
-
 -- of a table that passed check 5
 pub estimate_low : (estimates : List ℕ) (n : ℕ) → estimates_right estimates n ≡ true → (a b : ℕ) → a < n → b < n → estimate estimates n a b ≤ 255000000
 unfolding estimates_right
@@ -136,6 +133,10 @@ estimate_low estimates n e a b p q =
     let row : all (λ b. leb (estimate estimates n a b) 255000000) n ≡ true =
     and_left _ (eqb (estimate estimates n a a) 0) (all_at (row_right estimates n) n a e p) in
     leb-true _ _ (all_at (λ b. leb (estimate estimates n a b) 255000000) n b row q)
+
+-- so that two of its estimates can be added
+pub sum_fits : (estimates : List ℕ) (n : ℕ) → estimates_right estimates n ≡ true → (a b c x y : ℕ) → a < n → b < n → c < n → x ≡ estimate estimates n a b → y ≡ estimate estimates n b c → x + y < 4294967296
+sum_fits estimates n e a b c x y p q r u v = omega (arith, u, v, estimate_low estimates n e a b p q, estimate_low estimates n e b c q r)
 
 -- of rows that passed the clauses of "Fits"
 pub label_low : (label : List ℕ) (n : ℕ) → labels_right label n ≡ true → (s : ℕ) → s < n → get_or label s 0 ≤ 255000000
@@ -182,9 +183,6 @@ module _ (held many : List ℕ) (w : ℕ) (c : Counted held many w) where
   unfolding holders
   counted_low s l = omega (arith, c.each s l, count_max (λ v. eqb (get_or held v 0) s) w)
 
-  pub counted_end : (k : ℕ) → w ≤ k → k ≤ w → Counted held many k
-  counted_end k l g = let q : w ≡ k = omega arith in rw q at c
-
 -- what check 7 passes over: the detours from a by a itself, and by a state that is at least as far from a as any
 module _ (estimates : List ℕ) (n a b : ℕ) where
   pub detours_own : b ≡ a → detours_by estimates n a b ≡ true
@@ -194,3 +192,12 @@ module _ (estimates : List ℕ) (n a b : ℕ) where
   pub detours_over : largest (estimate estimates n a) n ≤ estimate estimates n a b → detours_by estimates n a b ≡ true
   unfolding detours_by
   detours_over h = all_of _ n (λ c l. le-leb (estimate estimates n a c) (estimate estimates n a b + estimate estimates n b c) (omega (arith, largest_at (estimate estimates n a) n c l)))
+
+  -- so that what passes over both looks at all detours by b
+  pub passed_over : (eqb b a || (leb (largest (estimate estimates n a) n) (estimate estimates n a b) || detours_by estimates n a b)) ≡ detours_by estimates n a b
+  passed_over = go (eqb b a) (leb (largest (estimate estimates n a) n) (estimate estimates n a b)) refl refl
+    where
+      go : (own over : Bool) → eqb b a ≡ own → leb (largest (estimate estimates n a) n) (estimate estimates n a b) ≡ over → (own || (over || detours_by estimates n a b)) ≡ detours_by estimates n a b
+      go true over p q = sym (detours_own (eqb-true b a p))
+      go false true p q = sym (detours_over (leb-true _ _ q))
+      go false false p q = refl

@@ -1,9 +1,11 @@
 -- The refusals of opening, 1 to 7: what a task must be. Each condition here is the one that the refusal of its number finds broken.
-use Rattle.std.specs.Prelude.{Bool, ◌&&◌, ◌||◌, not, List, ℕ, ◌+◌, ◌*◌, ◌%◌, length, ltb, leb, eqb}
+use Rattle.std.specs.Prelude.{Bool, ◌&&◌, ◌||◌, not, List, ℕ, ◌+◌, ◌*◌, ◌%◌, length, ltb, leb, eqb, Result, Ok, Err}
 use Rattle.laws.specs.Truth.{provided}
 use Rattle.laws.specs.All.{all}
 use Rattle.rule.specs.Task.{passage_count, near, far, cost, is_clear, estimate}
-use Rattle.rule.specs.Refusals.{bad_sizes, bad_ends, bad_weights, bad_passage, bad_estimate, above_passage, above_detour}
+use Rattle.rule.specs.declared.refusals.Refusal.{Refusal}
+use Rattle.rule.specs.declared.refusals.Refusal.TheVariants.{BadSizes, BadEnds, BadWeights, BadPassage, BadEstimate, AbovePassage, AboveDetour}
+use Rattle.checks.specs.declared.task.Task.{Task as Told}
 
 -- what a task is made of
 pub record Task : Type 0 where
@@ -18,6 +20,10 @@ pub record Task : Type 0 where
 
 abbrev pub task : ℕ → ℕ → ℕ → ℕ → ℕ → ℕ → List ℕ → List ℕ → Task
 task n k start goal pull excess passages estimates = record { n = n; k = k; start = start; goal = goal; pull = pull; excess = excess; passages = passages; estimates = estimates }
+
+-- the same, of what a caller tells: the numbers, and what the lent slices hold
+abbrev pub told : Told → Task
+told t = task t.n t.k t.start t.goal t.pull t.excess t.passages.now t.estimates.now
 
 -- 1 "n or k out of range, passage slice not a multiple of 3 or over 12,288 numbers, estimate slice not n × n"; "n states, 1 to 256; k workers, 1 to 32"
 unfoldable pub sizes_right : ℕ → ℕ → ℕ → ℕ → Bool
@@ -89,23 +95,23 @@ abbrev pub holds7 : Task → Bool
 holds7 t = detours_bound t.estimates t.n
 
 -- "Checked in this order; the first that applies is given": the first of 1 to 4 that applies, or else what the later checks come to
-abbrev pub early_or : Task → ℕ → ℕ
+abbrev pub early_or : Task → Result (Unit {0}) Refusal → Result (Unit {0}) Refusal
 early_or t late =
-    provided (holds1 t) bad_sizes
-    (provided (holds2 t) bad_ends
-    (provided (holds3 t) bad_weights
-    (provided (holds4 t) bad_passage
+    provided (holds1 t) (Err BadSizes)
+    (provided (holds2 t) (Err BadEnds)
+    (provided (holds3 t) (Err BadWeights)
+    (provided (holds4 t) (Err BadPassage)
     late)))
 
--- the first of 1 to 4 that applies, or 0: what "Fits" asks of a task
-unfoldable pub early_fault : Task → ℕ
-early_fault t = early_or t 0
+-- the first of 1 to 4 that applies, if one does: what "Fits" asks of a task
+unfoldable pub early_fault : Task → Result (Unit {0}) Refusal
+early_fault t = early_or t (Ok tt)
 
--- the first of 1 to 7 that applies: what opening refuses with, or 0 where it accepts
-unfoldable pub fault : Task → ℕ
+-- the first of 1 to 7 that applies: what opening refuses with, or `Ok` where it accepts
+unfoldable pub fault : Task → Result (Unit {0}) Refusal
 fault t =
     early_or t
-    (provided (holds5 t) bad_estimate
-    (provided (holds6 t) above_passage
-    (provided (holds7 t) above_detour
-    0)))
+    (provided (holds5 t) (Err BadEstimate)
+    (provided (holds6 t) (Err AbovePassage)
+    (provided (holds7 t) (Err AboveDetour)
+    (Ok tt))))

@@ -2,8 +2,10 @@
 // so a field more in it changes nothing here.
 #![tactic(auto)]
 
+mod detours;
 mod fits;
 mod opening;
+mod task;
 
 pub use fits::{held_once, keys_right, labels_right, marks_right, workers_right};
-pub use opening::{early_fault, fault};
+pub use task::Task;

@@ -1,18 +1,21 @@
 -- The laws about depends_on, safe, key, choice and decision that the loops and the callers use.
-use Rattle.std.specs.Prelude.{◌≡◌, refl, Bool, ◌&&◌, List, ◌⊎◌, ℕ, ◌+◌, ◌*◌, ◌≤◌, ◌<◌, ltb, eqb, get_or}
+use Rattle.std.specs.Prelude.{◌≡◌, refl, Bool, ◌&&◌, Option, Some, None, List, ℕ, ◌+◌, ◌*◌, ◌≤◌, ◌<◌, ltb, eqb, get_or}
 use Rattle.std.proofs.Common.{sym, ◌∙◌, true≢false, eq-or-lt_of_le, arith}
 use Rattle.std.proofs.Math.Bool.{true, false, cond, not}
 use Rattle.std.proofs.Math.Logic.{⊎_elim}
 use borrow.Author.Tests.{eq-eqb, ne_eqb, eqb-true, eqb-false, ltb-true, ltb-false, leb-false, lt-ltb, le-ltb, not-true, not-false}
 use Rattle.laws.specs.Truth.{and_left, and_right, and_false}
 use Rattle.laws.specs.First.{first, first_found, first_at, first_end, first_le, any_not, any_of}
-use Rattle.laws.specs.Least.{Best, best_zero, best_skip, best_lost, best_won, best_end, least_passes, least_below, least_nothing}
+use Rattle.laws.specs.Least.{best_zero, best_end, least_passes, least_below, least_nothing}
 use Rattle.rule.specs.Marks.{waiting, out, is_open, is_live}
 use Rattle.rule.specs.Rule.{independent, holds_back}
 use Rattle.rule.specs.Laws.{independent_is}
 use Rattle.dealing.specs.declared.Choice.{Choice}
 use Rattle.dealing.specs.declared.Choice.TheVariants.{Safe, Stopped, NoneOpen}
 use Rattle.dealing.specs.declared.Decision.TheVariants.{Found, NoPath, Deal, Stuck, Wait}
+use Rattle.std.specs.Option.{is_some}
+use Rattle.laws.specs.Chains.{below}
+use Rattle.dealing.specs.Places.{some_says, none_says, leads_at, wins, Leader, leader_none, leader_skip, leader_lost, leader_won}
 use Rattle.dealing.specs.Board.{Board, mark_at, label_at, h, depends_on, first_dependence, safe, key, choice, foremost, any_open, any_out, first_marked}
 use Rattle.dealing.specs.Decision.{waited_for, decision}
 
@@ -32,11 +35,6 @@ module _ (b : Board) (s t : ℕ) where
   pub depends_dead : is_live (mark_at b t) ≡ false → depends_on b s t ≡ false
   unfolding depends_on holds_back
   depends_dead d = rw d (and_false (not (eqb t s)))
-
-  pub depends_other : (g : ℕ) (r : Bool) → (t ≡ s → ⊥) → g ≡ h b t s
-      → r ≡ holds_back (mark_at b t) (label_at b s) (label_at b t) b.excess g → depends_on b s t ≡ r
-  unfolding depends_on
-  depends_other g r n e d = rw (ne_eqb t s n) (sym (rw e at d))
 
   -- what dependence on t says: t is another state, live, and its label with E × h(t,s) stays behind that of s
   module _ (e : depends_on b s t ≡ true) where
@@ -81,14 +79,26 @@ module _ (b : Board) (s : ℕ) where
   unfolding first_dependence
   safe_passed t o e l g = safe_open o (sym (first_end (depends_on b s) t b.n e l g))
 
--- whether something is open, and whether something is out, by the first state r with the mark
-pub open_by : (b : Board) (r : ℕ) → r ≡ first_marked b.mark b.n waiting → any_open b ≡ ltb r b.n
-unfolding any_open first_marked
-open_by b r e = rw e
+-- whether an open state is safe, by the state o that it depends on first
+pub safe_none : (b : Board) (s : ℕ) (r : Bool) (o : Option ℕ) → mark_at b s ≡ waiting → o ≡ below b.n (first_dependence b s) → is_some o ≡ not r → r ≡ safe b s
+unfolding first_dependence
+safe_none b s false None w e q = absurd (true≢false (sym q))
+safe_none b s true None w e q = sym (safe_open b s w (omega (arith, none_says b.n (first_dependence b s) e, first_le (depends_on b s) b.n)))
+safe_none b s false (Some i) w e q = sym (safe_dependent b s (λ z. omega (arith, some_says b.n (first_dependence b s) i e)))
+safe_none b s true (Some i) w e q = absurd (true≢false q)
 
+-- whether something is out, by the first state r with the mark
 pub out_by : (b : Board) (r : ℕ) → r ≡ first_marked b.mark b.n out → any_out b ≡ ltb r b.n
 unfolding any_out first_marked
 out_by b r e = rw e
+
+pub out_none : (b : Board) → None ≡ below b.n (first_marked b.mark b.n out) → any_out b ≡ false
+out_none b u = out_by b _ refl ∙ le-ltb (first_marked b.mark b.n out) b.n (none_says _ _ u)
+
+pub out_some : (b : Board) (r : ℕ) → Some r ≡ below b.n (first_marked b.mark b.n out) → (any_out b ≡ true) × (r ≡ first_marked b.mark b.n out) × (r < b.n)
+out_some b r u =
+    let w = some_says b.n (first_marked b.mark b.n out) r u in
+    (out_by b _ refl ∙ lt-ltb (first_marked b.mark b.n out) b.n w.1, w.0, rw w.0 w.1)
 
 -- a row has the keys of the open states, which are the ones that are looked at
 pub record Keyed (goal pull : ℕ) (b : Board) (row : List ℕ) : Type 0 where
@@ -103,13 +113,13 @@ busy_out b e = rw e (and_false (not (any_open b)))
 
 -- what the choice and the foremost open state say of the board
 module _ (goal pull : ℕ) (b : Board) where
-  choice_in : (choice goal pull b ≡ b.n → ⊥) → choice goal pull b < b.n
-  unfolding choice
-  choice_in = least_below (safe b) (key goal pull b) b.n b.n (omega arith)
-
   pub choice_safe : choice goal pull b < b.n → safe b (choice goal pull b) ≡ true
   unfolding choice
   choice_safe l = least_passes (safe b) (key goal pull b) b.n b.n (λ e. omega arith)
+
+  pub choice_open : choice goal pull b < b.n → any_open b ≡ true
+  unfolding any_open
+  choice_open l = any_of _ b.n (choice goal pull b) l (eq-eqb _ waiting (safe_is_open b (choice goal pull b) (choice_safe l)))
 
   pub choice_none : b.n ≤ choice goal pull b → (s : ℕ) → s < b.n → safe b s ≡ false
   unfolding choice
@@ -141,84 +151,117 @@ module _ (goal pull : ℕ) (b : Board) where
       ⊎_elim (λ q. absurd (true≢false (sym (safe_open b (foremost goal pull b) (foremost_open z) q) ∙ f (foremost goal pull b) (foremost_in z)))) (λ l. l)
       (eq-or-lt_of_le (first_le (depends_on b (foremost goal pull b)) b.n))
 
--- what the loop over the candidates knows at next: best leads the safe states below it, with the key least; and as long as none is safe, front leads the open ones, with the key ahead, and its test stopped at stop
-pub record Leads (goal pull : ℕ) (b : Board) (next best least front ahead stop : ℕ) : Type 0 where
-  pub safest : Best (safe b) (key goal pull b) b.n next best least
-  pub soonest : best ≡ b.n → Best (λ s. is_open (mark_at b s)) (key goal pull b) b.n next front ahead
-  pub stopped : best ≡ b.n → (front ≡ b.n → ⊥) → stop ≡ first_dependence b front
+-- where the test of the one that leads stops, with the key of that one
+abbrev pub stops : Board → Option (ℕ × ℕ) → Option (ℕ × ℕ)
+stops b None = None
+stops b (Some p) = Some (first_dependence b p.0, p.1)
 
-pub leads_zero : (goal pull : ℕ) (b : Board) (least ahead stop : ℕ) → Leads goal pull b 0 b.n least b.n ahead stop
-leads_zero goal pull b least ahead stop = record { safest = best_zero _ _ _ least; soonest = λ _. best_zero _ _ _ ahead; stopped = λ _ z. absurd (z refl) }
+wins_stops : (b : Board) (k : ℕ) (f : Option (ℕ × ℕ)) → wins k (stops b f) ≡ wins k f
+wins_stops b k None = refl
+wins_stops b k (Some p) = refl
+
+-- what the loop over the candidates knows at next: best leads the safe states below it; and as long as none is safe, `first` leads the open ones, and front says where its test stopped
+pub record Leads (goal pull : ℕ) (b : Board) (next : ℕ) (best front : Option (ℕ × ℕ)) : Type 0 where
+  pub safest : Leader (safe b) (key goal pull b) b.n next best
+  pub first : Option (ℕ × ℕ)
+  pub soonest : best ≡ None → Leader (λ s. is_open (mark_at b s)) (key goal pull b) b.n next first
+  pub stopped : best ≡ None → front ≡ stops b first
+
+some_none : {A : Type 0} (x : A) → Some x ≡ None → ⊥
+some_none x e = let z : ◌≡◌ {A = ℕ} 0 1 = cc in omega arith
+
+pub leads_zero : (goal pull : ℕ) (b : Board) → Leads goal pull b 0 None None
+leads_zero goal pull b = record {
+  safest = leader_none _ _ _ 0 (best_zero _ _ _ 0);
+  first = None;
+  soonest = λ _. leader_none _ _ _ 0 (best_zero _ _ _ 0);
+  stopped = λ _. refl;
+}
 
 -- the ways on from a candidate s
-module _ (goal pull : ℕ) (b : Board) (s best least front ahead stop : ℕ) (c : Leads goal pull b s best least front ahead stop) where
+module _ (goal pull : ℕ) (b : Board) (s : ℕ) (best front : Option (ℕ × ℕ)) (c : Leads goal pull b s best front) where
   -- s isn't open
-  pub leads_shut : (mark_at b s ≡ waiting → ⊥) → Leads goal pull b (s + 1) best least front ahead stop
+  pub leads_shut : (mark_at b s ≡ waiting → ⊥) → Leads goal pull b (s + 1) best front
   leads_shut z = record {
-    safest = best_skip _ _ _ s _ _ c.safest (safe_shut b s z);
-    soonest = λ e. best_skip _ _ _ s _ _ (c.soonest e) (ne_eqb (mark_at b s) waiting z);
+    safest = leader_skip _ _ _ s _ c.safest (safe_shut b s z);
+    first = c.first;
+    soonest = λ e. leader_skip _ _ _ s _ (c.soonest e) (ne_eqb (mark_at b s) waiting z);
     stopped = c.stopped;
   }
 
   -- a safe state leads, and the key of s isn't smaller
-  pub leads_lost : (best ≡ b.n → ⊥) → least ≤ key goal pull b s → Leads goal pull b (s + 1) best least front ahead stop
-  leads_lost z l = record {
-    safest = best_lost _ _ _ s _ _ c.safest z l;
-    soonest = λ e. absurd (z e);
-    stopped = λ e. absurd (z e);
+  pub leads_lost : wins (key goal pull b s) best ≡ false → Leads goal pull b (s + 1) best front
+  leads_lost l = record {
+    safest = leader_lost _ _ _ s _ c.safest l;
+    first = c.first;
+    soonest = λ e. absurd (true≢false (rw e at l));
+    stopped = c.stopped;
   }
 
   -- the test of s stops at t
   module _ (t : ℕ) (e : first (depends_on b s) t ≡ t) (d : depends_on b s t ≡ true) (l : t < b.n) where
     -- an open state leads, and the key of s isn't smaller
-    pub leads_behind : (front ≡ b.n → ⊥) → ahead ≤ key goal pull b s → Leads goal pull b (s + 1) best least front ahead stop
-    leads_behind z k = record {
-      safest = best_skip _ _ _ s _ _ c.safest (safe_stopped b s t e d l);
-      soonest = λ q. best_lost _ _ _ s _ _ (c.soonest q) z k;
+    pub leads_behind : wins (key goal pull b s) front ≡ false → Leads goal pull b (s + 1) best front
+    leads_behind k = record {
+      safest = leader_skip _ _ _ s _ c.safest (safe_stopped b s t e d l);
+      first = c.first;
+      soonest = λ q. leader_lost _ _ _ s _ (c.soonest q) (sym (wins_stops b _ c.first) ∙ (rw (c.stopped q) at k));
       stopped = c.stopped;
     }
 
     -- s leads from now on
-    pub leads_front : mark_at b s ≡ waiting → (front ≡ b.n) ⊎ ((front ≡ b.n → ⊥) × (key goal pull b s < ahead))
-        → Leads goal pull b (s + 1) best least s (key goal pull b s) t
+    pub leads_front : s < b.n → mark_at b s ≡ waiting → wins (key goal pull b s) front ≡ true
+        → Leads goal pull b (s + 1) best (Some (t, key goal pull b s))
     unfolding first_dependence
-    leads_front o w = record {
-      safest = best_skip _ _ _ s _ _ c.safest (safe_stopped b s t e d l);
-      soonest = λ q. best_won _ _ _ s _ _ (c.soonest q) (eq-eqb (mark_at b s) waiting o) w;
-      stopped = λ q z. first_at (depends_on b s) t b.n e d l;
+    leads_front m o w = record {
+      safest = leader_skip _ _ _ s _ c.safest (safe_stopped b s t e d l);
+      first = Some (s, key goal pull b s);
+      soonest = λ q. leader_won _ _ _ s _ (c.soonest q) m (eq-eqb (mark_at b s) waiting o) (sym (wins_stops b _ c.first) ∙ (rw (c.stopped q) at w));
+      stopped = λ q. rw (← first_at (depends_on b s) t b.n e d l);
     }
 
   -- s is safe and leads from now on
-  pub leads_safe : s < b.n → safe b s ≡ true → (best ≡ b.n) ⊎ ((best ≡ b.n → ⊥) × (key goal pull b s < least))
-      → Leads goal pull b (s + 1) s (key goal pull b s) front ahead stop
+  pub leads_safe : s < b.n → safe b s ≡ true → wins (key goal pull b s) best ≡ true → Leads goal pull b (s + 1) (Some (s, key goal pull b s)) front
   leads_safe l y w = record {
-    safest = best_won _ _ _ s _ _ c.safest y w;
-    soonest = λ e. absurd (omega arith);
-    stopped = λ e. absurd (omega arith);
+    safest = leader_won _ _ _ s _ c.safest l y w;
+    first = c.first;
+    soonest = λ e. absurd (some_none _ e);
+    stopped = λ e. absurd (some_none _ e);
   }
 
 -- what the loop comes to at its end
-module _ (goal pull : ℕ) (b : Board) (s best least front ahead stop : ℕ) (c : Leads goal pull b s best least front ahead stop) (l : s ≤ b.n) (g : b.n ≤ s) where
-  best_is : best ≡ choice goal pull b
+module _ (goal pull : ℕ) (b : Board) (s : ℕ) (l : s ≤ b.n) (g : b.n ≤ s) where
+  best_is : (best front : Option (ℕ × ℕ)) → Leads goal pull b s best front → leads_at b.n best ≡ choice goal pull b
   unfolding choice
-  best_is = best_end _ _ _ s b.n _ _ c.safest l g
+  best_is best front c = best_end _ _ _ s b.n _ _ c.safest.best l g
 
-  front_is : best ≡ b.n → front ≡ foremost goal pull b
+  front_is : (front : Option (ℕ × ℕ)) (c : Leads goal pull b s None front) → leads_at b.n c.first ≡ foremost goal pull b
   unfolding foremost
-  front_is e = best_end _ _ _ s b.n _ _ (c.soonest e) l g
+  front_is front c = best_end _ _ _ s b.n _ _ (c.soonest refl).best l g
 
-  pub leads_chosen : (best ≡ b.n → ⊥) → Safe best ≡ choose goal pull b
+  pub leads_chosen : (x : ℕ × ℕ) (front : Option (ℕ × ℕ)) → Leads goal pull b s (Some x) front → Safe x.0 ≡ choose goal pull b
   unfolding choose
-  leads_chosen z = rw (best_is, lt-ltb (choice goal pull b) b.n (choice_in goal pull b (λ q. z (best_is ∙ q))))
+  leads_chosen x front c = rw (← best_is _ _ c, lt-ltb x.0 b.n (c.safest.inside x refl))
 
-  pub leads_stopped : best ≡ b.n → (front ≡ b.n → ⊥) → Stopped stop ≡ choose goal pull b
+  pub leads_stopped : (x : ℕ × ℕ) → Leads goal pull b s None (Some x) → Stopped x.0 ≡ choose goal pull b
   unfolding choose
-  leads_stopped e z =
-      rw (c.stopped e z, front_is e, le-ltb (choice goal pull b) b.n (omega (arith, best_is)), foremost_some goal pull b (λ q. z (front_is e ∙ q)))
+  leads_stopped x c = go c.first (c.stopped refl) (c.soonest refl) (front_is _ c)
+    where
+      go : (f : Option (ℕ × ℕ)) → Some x ≡ stops b f → Leader (λ s. is_open (mark_at b s)) (key goal pull b) b.n s f → leads_at b.n f ≡ foremost goal pull b
+          → Stopped x.0 ≡ cond (ltb (choice goal pull b) b.n) (Safe (choice goal pull b)) (cond (any_open b) (Stopped (first_dependence b (foremost goal pull b))) NoneOpen)
+      go None e w q = absurd (some_none x e)
+      go (Some y) e w q =
+          let r : x.0 ≡ first_dependence b y.0 = cc in
+          rw (← best_is _ _ c, le-ltb b.n b.n (omega arith), foremost_some goal pull b (λ z. omega (arith, w.inside y refl)), ← q, r)
 
-  pub leads_none : best ≡ b.n → front ≡ b.n → NoneOpen ≡ choose goal pull b
+  pub leads_none : Leads goal pull b s None None → NoneOpen ≡ choose goal pull b
   unfolding choose
-  leads_none e z = rw (le-ltb (choice goal pull b) b.n (omega (arith, best_is)), foremost_none goal pull b (omega (arith, front_is e)))
+  leads_none c = go c.first (c.stopped refl) (front_is _ c)
+    where
+      go : (f : Option (ℕ × ℕ)) → None ≡ stops b f → leads_at b.n f ≡ foremost goal pull b
+          → NoneOpen ≡ cond (ltb (choice goal pull b) b.n) (Safe (choice goal pull b)) (cond (any_open b) (Stopped (first_dependence b (foremost goal pull b))) NoneOpen)
+      go None e q = rw (← best_is _ _ c, le-ltb b.n b.n (omega arith), foremost_none goal pull b (omega (arith, q)))
+      go (Some y) e q = absurd (some_none _ (sym e))
 
 -- the ladders of what going through comes to and of a decision, each taken apart by its tests
 safe_by : (some any : Bool) (c f s : ℕ) → Safe s ≡ cond some (Safe c) (cond any (Stopped f) NoneOpen) → (some ≡ true) × (s ≡ c)
@@ -275,26 +318,30 @@ module _ (goal pull : ℕ) (b : Board) where
   decides_found y = rw y
 
   module _ (g : safe b goal ≡ false) where
-    pub decides_none : any_open b ≡ false → any_out b ≡ false → NoPath ≡ decision goal pull b
-    unfolding decision
-    decides_none o u = rw (g, o, u)
+    pub decides_none : NoneOpen ≡ choose goal pull b → None ≡ below b.n (first_marked b.mark b.n out) → NoPath ≡ decision goal pull b
+    unfolding choose decision
+    decides_none e u = let w = none_by (ltb (choice goal pull b) b.n) (any_open b) _ _ e in rw (g, w.1, out_none b u)
 
-    module _ (busy : (not (any_open b) && not (any_out b)) ≡ false) where
-      pub decides_deal : (s : ℕ) → Safe s ≡ choose goal pull b → Deal s ≡ decision goal pull b
-      unfolding choose decision
-      decides_deal s e = let w = safe_by (ltb (choice goal pull b) b.n) (any_open b) _ (first_dependence b (foremost goal pull b)) s e in rw (g, busy, w.0, w.1)
+    pub decides_deal : (s : ℕ) → Safe s ≡ choose goal pull b → Deal s ≡ decision goal pull b
+    unfolding choose decision
+    decides_deal s e =
+        let w = safe_by (ltb (choice goal pull b) b.n) (any_open b) _ (first_dependence b (foremost goal pull b)) s e in
+        rw (g, busy_open b (choice_open goal pull b (ltb-true (choice goal pull b) b.n w.0)), w.0, w.1)
 
-      pub decides_stuck : (t : ℕ) → Stopped t ≡ choose goal pull b → any_out b ≡ false → Stuck ≡ decision goal pull b
-      unfolding choose decision
-      decides_stuck t e u = let w = stopped_by_lem (ltb (choice goal pull b) b.n) (any_open b) _ _ t e in rw (g, busy, w.0, u)
+    pub decides_stuck : (t : ℕ) → Stopped t ≡ choose goal pull b → None ≡ below b.n (first_marked b.mark b.n out) → Stuck ≡ decision goal pull b
+    unfolding choose decision
+    decides_stuck t e u = let w = stopped_by_lem (ltb (choice goal pull b) b.n) (any_open b) _ _ t e in rw (g, busy_open b w.1, w.0, out_none b u)
 
-      pub decides_wait : (t : ℕ) → Stopped t ≡ choose goal pull b → any_out b ≡ true → Wait t ≡ decision goal pull b
-      unfolding choose decision waited_for
-      decides_wait t e u = let w = stopped_by_lem (ltb (choice goal pull b) b.n) (any_open b) _ _ t e in rw (g, busy, w.0, u, w.1, w.2)
+    pub decides_wait : (t : ℕ) → Stopped t ≡ choose goal pull b → (r : ℕ) → Some r ≡ below b.n (first_marked b.mark b.n out) → Wait t ≡ decision goal pull b
+    unfolding choose decision waited_for
+    decides_wait t e r u = let w = stopped_by_lem (ltb (choice goal pull b) b.n) (any_open b) _ _ t e in rw (g, busy_open b w.1, w.0, (out_some b r u).0, w.1, w.2)
 
-      pub decides_quiet : NoneOpen ≡ choose goal pull b → (r : ℕ) → r ≡ first_marked b.mark b.n out → Wait r ≡ decision goal pull b
-      unfolding choose decision waited_for
-      decides_quiet e r q = let w = none_by (ltb (choice goal pull b) b.n) (any_open b) _ _ e in rw (g, busy, w.0, not-false (any_out b) (rw w.1 at busy), w.1, q)
+    pub decides_quiet : NoneOpen ≡ choose goal pull b → (r : ℕ) → Some r ≡ below b.n (first_marked b.mark b.n out) → Wait r ≡ decision goal pull b
+    unfolding choose decision waited_for
+    decides_quiet e r u =
+        let w = none_by (ltb (choice goal pull b) b.n) (any_open b) _ _ e in
+        let o = out_some b r u in
+        rw (g, busy_out b o.0, w.0, o.0, w.1, o.1)
 
   -- a state that is dealt is one
   pub deal_in : (s : ℕ) → decision goal pull b ≡ Deal s → s < b.n

@@ -1,5 +1,7 @@
 -- "The rule of a step" as far as it compares states: what a Take comes to, before anything is changed.
+pub mod Places
 pub mod Board
+pub mod Seen
 pub mod Decision
 pub mod Limited
 pub mod Laws
@@ -9,3 +11,4 @@ pub mod LimitedOrderLaws
 pub mod LimitedLaws
 pub mod AsTakeLaws
 pub mod LimitedStepLaws
+pub mod Standing

@@ -1,14 +1,17 @@
 -- Order 7, "A Take that knows when to stop": "Take's steps and Wait, whose test compares a candidate only with states that are out or have a smaller key".
-use Rattle.std.specs.Prelude.{Bool, ◌&&◌, ◌||◌, not, cond, List, [], ◌∷◌, ◌++◌, ℕ, zero, suc, ◌+◌, ltb, leb, eqb}
+use Rattle.std.specs.Prelude.{Bool, ◌&&◌, ◌||◌, not, cond, Option, Some, None, List, [], ◌∷◌, ◌++◌, ℕ, zero, suc, ◌+◌, ltb, leb, eqb}
 use Rattle.laws.specs.First.{first}
 use Rattle.laws.specs.Count.{count}
 use Rattle.laws.specs.Least.{least}
 use Rattle.rule.specs.Marks.{out, is_open, is_out}
 use Rattle.dealing.specs.declared.Decision.{Decision}
-use Rattle.dealing.specs.declared.Limited.{Limited}
-use Rattle.dealing.specs.declared.Limited.TheVariants.{Cut, Decided}
+use Rattle.dealing.specs.declared.Decided.{Decided}
 use Rattle.dealing.specs.Board.{Board, mark_at, depends_on, key, foremost, any_open, first_marked}
 use Rattle.dealing.specs.Decision.{steps}
+
+-- a step that is decided on, with the count
+abbrev pub decided : Decision → ℕ → Option Decided
+decided d made = Some (record { decision = d; comparisons = made })
 
 -- what trying candidates comes to: the one that passed, or n; and the comparisons made
 pub record Trial : Type 0 where
@@ -68,6 +71,6 @@ module _ (goal pull : ℕ) (b : Board) where
   unfoldable pub limited_decision : Decision
   limited_decision = steps b goal (passes goal) (tried candidates).chosen stopped_by
 
-  -- "With a limit smaller than that full count it replies Cut"; else the step, and the count
-  unfoldable pub limited : ℕ → Limited
-  limited limit = cond (ltb limit full_count) Cut (Decided limited_decision full_count)
+  -- "With a limit smaller than that full count it replies Cut", here none; else the step, and the count
+  unfoldable pub limited : ℕ → Option Decided
+  limited limit = cond (ltb limit full_count) None (decided limited_decision full_count)

@@ -1,6 +1,6 @@
 -- The laws about the limited Take that its callers use: it is never stuck, what it names is a state, and how many comparisons it makes at most. Before them the laws about its candidates.
 use Rattle.std.proofs.Math.Path.{◌≡◌, refl, ap}
-use Rattle.std.proofs.Common.{sym, ◌∙◌, inl, inr, eq-or-lt_of_le}
+use Rattle.std.proofs.Common.{None, sym, ◌∙◌, inl, inr, eq-or-lt_of_le}
 use Rattle.std.specs.Prelude.{Bool, ◌&&◌, ◌||◌, List, [], ◌∷◌, ◌++◌, ◌⊎◌, eqb}
 use Rattle.std.proofs.Math.Bool.{true, false, cond, not, true≢false}
 use Rattle.std.proofs.Math.Logic.{⊎_elim}
@@ -17,10 +17,10 @@ use Rattle.laws.specs.Least.{After, least_after, least_only}
 use Rattle.rule.specs.Marks.{waiting, out, is_open, is_out, is_live}
 use Rattle.dealing.specs.declared.Decision.{Decision}
 use Rattle.dealing.specs.declared.Decision.TheVariants.{Deal, Stuck, Wait}
-use Rattle.dealing.specs.declared.Limited.TheVariants.{Cut, Decided}
+use Rattle.dealing.specs.declared.Decided.{Decided}
 use Rattle.dealing.specs.Board.{Board, mark_at, key, foremost, any_open, any_out, first_marked}
 use Rattle.dealing.specs.Laws.{foremost_in, foremost_open, foremost_none, foremost_any, out_by, deal_by, wait_by, stuck_by}
-use Rattle.dealing.specs.Limited.{Trial, compared, stops_at, comparisons, passes, next, others, candidates, tried, full_count, stopped_by, limited_decision, limited}
+use Rattle.dealing.specs.Limited.{Trial, compared, stops_at, comparisons, passes, next, others, candidates, tried, full_count, stopped_by, limited_decision, limited, decided}
 use Rattle.dealing.specs.LimitedOrderLaws.{Other, onward, follows_all, comes, comes_of, comes_other, next_on, comes_self, rank, rank_none, rank_some, rank_next, others_none, others_some, onward_passed}
 
 -- the candidates, and the foremost open state among them
@@ -122,14 +122,17 @@ module _ (goal pull : ℕ) (b : Board) where
       omega (arith, foremost_passes quiet z, foremost_stopped w.3 (ltb-false _ b.n w.0) z)
 
   -- a step that is decided on comes with the whole count, which is within the limit
-  pub limited_says : (limit made : ℕ) (d : Decision) → limited goal pull b limit ≡ Decided d made → (limited_decision goal pull b ≡ d) × (full_count goal pull b ≡ made) × (made ≤ limit)
+  pub limited_says : (limit made : ℕ) (d : Decision) → limited goal pull b limit ≡ decided d made → (limited_decision goal pull b ≡ d) × (full_count goal pull b ≡ made) × (made ≤ limit)
   unfolding limited
   limited_says limit made d e = go (ltb limit (full_count goal pull b)) refl e
     where
-      go : (v : Bool) → ltb limit (full_count goal pull b) ≡ v → cond v Cut (Decided (limited_decision goal pull b) (full_count goal pull b)) ≡ Decided d made
+      go : (v : Bool) → ltb limit (full_count goal pull b) ≡ v → cond v None (decided (limited_decision goal pull b) (full_count goal pull b)) ≡ decided d made
           → (limited_decision goal pull b ≡ d) × (full_count goal pull b ≡ made) × (made ≤ limit)
       go true q r = let z : ◌≡◌ {A = ℕ} 0 1 = cc in absurd (omega arith)
-      go false q r = let m : full_count goal pull b ≡ made = cc in (cc, m, omega (arith, ltb-false limit (full_count goal pull b) q))
+      go false q r =
+          let w : ◌≡◌ {A = Decided} (record { decision = limited_decision goal pull b; comparisons = full_count goal pull b }) (record { decision = d; comparisons = made }) = cc in
+          let m : full_count goal pull b ≡ made = ap (λ (x : Decided). x.comparisons) w in
+          (ap (λ (x : Decided). x.decision) w, m, omega (arith, ltb-false limit (full_count goal pull b) q))
 
   -- a state that is named is one
   deal_below : (s : ℕ) → limited_decision goal pull b ≡ Deal s → s < b.n
@@ -150,7 +153,7 @@ module _ (goal pull : ℕ) (b : Board) where
       go false o = ltb-true (first_marked b.mark b.n out) b.n (sym (out_by b _ refl) ∙ not-false (any_out b) w.1)
 
   pub limited_in : (limit made : ℕ)
-      → ((s : ℕ) → limited goal pull b limit ≡ Decided (Deal s) made → s < b.n) × ((t : ℕ) → limited goal pull b limit ≡ Decided (Wait t) made → t < b.n)
+      → ((s : ℕ) → limited goal pull b limit ≡ decided (Deal s) made → s < b.n) × ((t : ℕ) → limited goal pull b limit ≡ decided (Wait t) made → t < b.n)
   limited_in limit made = (λ s e. deal_below s (limited_says limit made (Deal s) e).0, λ t e. wait_below t (limited_says limit made (Wait t) e).0)
 
 -- how many comparisons are made at most: each open state is compared with the other live ones

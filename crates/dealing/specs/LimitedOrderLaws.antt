@@ -4,8 +4,8 @@ use Rattle.std.proofs.Math.Path.{refl}
 use Rattle.std.proofs.Common.{sym, ap, ◌∙◌, arith}
 use Rattle.std.proofs.Math.Logic.{inl, inr, ⊎_elim}
 use Prim.Native.Nat.{ℕ, zero, suc, ◌+◌, ◌≤◌, ◌<◌}
-use borrow.Author.Tests.{eq-eqb, ne_eqb, eqb-false, not-true}
-use Rattle.laws.specs.Truth.{and_left, and_right, and_both, and_false}
+use borrow.Author.Tests.{eq-eqb, ne_eqb, eqb-true, eqb-false, not-true}
+use Rattle.laws.specs.Truth.{and_left, and_right, and_both, and_false, or_either, or_second}
 use Rattle.laws.specs.Count.{count, count_lt, count_short}
 use Rattle.laws.specs.Least.{least_is, After, after_on, after_not}
 use Rattle.rule.specs.Marks.{is_open}
@@ -27,11 +27,11 @@ module _ (goal pull : ℕ) (b : Board) where
   -- `follows`, by what it says of the keys
   pub follows_says : (s t : ℕ) → (s ≡ b.n → ⊥) → follows goal pull b s t ≡ true → After (key goal pull b) s t
   unfolding follows
-  follows_says = after_says (key goal pull b) b.n
+  follows_says s t z e = ⊎_elim (λ q. absurd (z (eqb-true s b.n q))) (λ q. after_says (key goal pull b s) (key goal pull b t) s t q) (or_either (eqb s b.n) _ e)
 
   pub follows_of : (s t : ℕ) → After (key goal pull b) s t → follows goal pull b s t ≡ true
   unfolding follows
-  follows_of = after_of (key goal pull b) b.n
+  follows_of s t a = or_second (eqb s b.n) _ (after_of (key goal pull b s) (key goal pull b t) s t a)
 
   follows_self : (s : ℕ) → (s ≡ b.n → ⊥) → follows goal pull b s s ≡ false
   follows_self s z = go (follows goal pull b s s) refl

@@ -2,18 +2,19 @@
 // mark, label and stored key with the table of estimates, and changes nothing. What a limited Take comes to stands in `limits`.
 #![tactic(auto)]
 
-ghost use Rattle.std.specs.Prelude.{◌≡◌, ◌≤◌, ◌<◌};
-ghost use Rattle.rule.specs.Laws.{WholeTable};
-ghost use Rattle.dealing.specs.Board.{board, first_dependence, first_marked};
+ghost use Rattle.std.specs.Prelude.{◌≡◌, ◌<◌};
+ghost use Rattle.dealing.specs.Seen.{seen};
 ghost use Rattle.dealing.specs.Decision.{decision};
 ghost use Rattle.dealing.specs.Laws.{Keyed, choose};
+ghost use Rattle.dealing.specs.Places.{wins};
 
+mod board;
 mod limits;
 
-pub use limits::decide_limited;
+pub use board::{Board, first_marked};
 
 // The five steps of Take, in their order, with what each names.
-#[derive(Clone, Copy)]
+#[derive(Clone, Copy, Debug, PartialEq, Eq)]
 pub enum Decision {
     Found(u32),
     NoPath,
@@ -24,164 +25,94 @@ pub enum Decision {
 
 // What going through the open states comes to: the safe one to deal; or none is safe, and the test of the one with the
 // smallest key stopped at a state; or nothing is open.
-#[derive(Clone, Copy)]
+#[derive(Clone, Copy, Debug, PartialEq, Eq)]
 pub enum Choice {
     Safe(usize),
     Stopped(usize),
     NoneOpen,
 }
 
-// What a limited Take comes to: cut short; or one of the steps, and how many comparisons it took.
+// What a limited Take comes to where it isn't cut short: one of the steps, and how many comparisons it took.
+#[derive(Clone, Copy, Debug, PartialEq, Eq)]
+pub struct Decided {
+    pub decision: Decision,
+    pub comparisons: usize,
+}
+
+// A board with the key of each open state in a row. The pull isn't looked at: it says which keys these are.
 #[derive(Clone, Copy)]
-pub enum Limited {
-    Cut,
-    Decided(Decision, usize),
+pub struct Ranked<'t, 'a> {
+    pub board: Board<'t, 'a>,
+    pub goal: usize,
+    pub pull: u16,
+    pub key: &'a [u64; 256],
+    pub ghost keyed: { Keyed goal pull (seen board) key.now },
 }
 
-// The first state that s depends on, or n where it depends on none.
-pub fn first_dependence<'a>(
-    mark: &'a [u8; 256],
-    label: &'a [u32; 256],
-    estimates: &[u32],
-    n: usize,
-    excess: u16,
-    s: usize,
-) -> usize
-    requires { WholeTable estimates.now n × (s < n) }
-    ensures { result ≡ first_dependence (board n excess estimates.now mark.now label.now) s }
+// A state with this key goes before the one that leads, if one does: its key stands beside it.
+fn wins(key: u64, leader: Option<(usize, u64)>) -> bool
+    ensures { result ≡ wins key leader }
 {
-    let label_s = label[s];
-    for t in 0..n {
-        // The mark first: the estimates to s lie a row apart, and most are left unread where few states are open or out.
-        if rule::is_live(mark[t]) {
-            if t != s {
-                let h = rule::estimate(estimates, n, t, s);
-                if rule::holds_back(mark[t], label_s, label[t], excess, h) {
-                    return t;
-                }
-            }
-        }
+    match leader {
+        None => true,
+        Some((_, least)) => key < least,
     }
-    n
 }
 
-// The safe state with the smallest key, the lowest number among equals. Where none is safe, the test of the open state
-// with the smallest key, the lowest number among equals, says where it stopped. The goal and the pull aren't looked at: they
-// say which keys stand in the row.
-pub fn choose<'a>(
-    mark: &'a [u8; 256],
-    label: &'a [u32; 256],
-    key: &'a [u64; 256],
-    estimates: &[u32],
-    n: usize,
-    excess: u16,
-    goal: usize,
-    pull: u16,
-) -> Choice
-    requires { Keyed goal pull (board n excess estimates.now mark.now label.now) key.now × WholeTable estimates.now n }
-    ensures { result ≡ choose goal pull (board n excess estimates.now mark.now label.now) }
-{
-    // The safe state that leads, and its key.
-    let mut best = n;
-    let mut least: u64 = 18446744073709551615;
-    // While none is safe: the open state that leads, its key, and where its test stopped.
-    let mut front = n;
-    let mut ahead: u64 = 18446744073709551615;
-    let mut stop = n;
-    let mut next = 0;
-    'candidates: while next < n {
-        let s = next;
-        next += 1;
-        if mark[s] != rule::OPEN {
-            continue 'candidates;
-        }
-        let label_s = label[s];
-        let key_s = key[s];
-        // A key that can't win spares the comparisons.
-        if best != n {
-            if key_s >= least {
+impl Ranked<'_, '_> {
+    // The safe state with the smallest key, the lowest number among equals. Where none is safe, the test of the open state
+    // with the smallest key, the lowest number among equals, says where it stopped.
+    pub fn choose(&self) -> Choice
+        ensures { result ≡ choose self.now.goal self.now.pull (seen self.now.board) }
+    {
+        let board = self.board;
+        // The scope asks for this form: a labelled loop over candidates, and in it one over states that is left at a dependence.
+        // The safe state that leads, and its key.
+        let mut best: Option<(usize, u64)> = None;
+        // While none is safe: where the test of the open state that leads stopped, and its key.
+        let mut front: Option<(usize, u64)> = None;
+        'candidates: for s in 0..board.table.n {
+            if board.mark[s] != rule::OPEN {
                 continue 'candidates;
             }
-        }
-        for t in 0..n {
-            if rule::is_live(mark[t]) {
-                if t != s {
-                    let h = rule::estimate(estimates, n, t, s);
-                    if rule::holds_back(mark[t], label_s, label[t], excess, h) {
-                        if front != n {
-                            if key_s >= ahead {
-                                continue 'candidates;
-                            }
-                        }
-                        front = s;
-                        ahead = key_s;
-                        stop = t;
-                        continue 'candidates;
+            let key_s = self.key[s];
+            // A key that can't win spares the comparisons.
+            if !wins(key_s, best) {
+                continue 'candidates;
+            }
+            for t in 0..board.table.n {
+                if board.depends_on(s, t) {
+                    if wins(key_s, front) {
+                        front = Some((t, key_s));
                     }
+                    continue 'candidates;
                 }
             }
+            best = Some((s, key_s));
         }
-        best = s;
-        least = key_s;
-    }
-    if best == n {
-        if front != n {
-            return Choice::Stopped(stop);
+        match (best, front) {
+            (Some((s, _)), _) => Choice::Safe(s),
+            (None, Some((t, _))) => Choice::Stopped(t),
+            (None, None) => Choice::NoneOpen,
         }
-        return Choice::NoneOpen;
     }
-    Choice::Safe(best)
-}
 
-// The lowest state below n with this mark, or n.
-pub fn first_marked(mark: &[u8; 256], n: usize, wanted: u8) -> usize
-    requires { n ≤ 256 }
-    ensures { result ≡ first_marked mark.now n wanted }
-{
-    for s in 0..n {
-        if mark[s] == wanted {
-            return s;
+    // Which of its steps a Take comes to.
+    pub fn decide(&self) -> Decision
+        requires { self.now.goal < self.now.board.table.n }
+        ensures { result ≡ decision self.now.goal self.now.pull (seen self.now.board) }
+    {
+        let board = self.board;
+        if board.is_safe(self.goal) {
+            return Decision::Found(board.label[self.goal]);
         }
-    }
-    n
-}
-
-// Which of its steps a Take comes to. The keys stand in a row.
-pub fn decide<'a>(
-    mark: &'a [u8; 256],
-    label: &'a [u32; 256],
-    key: &'a [u64; 256],
-    estimates: &[u32],
-    n: usize,
-    excess: u16,
-    goal: usize,
-    pull: u16,
-) -> Decision
-    requires { Keyed goal pull (board n excess estimates.now mark.now label.now) key.now × WholeTable estimates.now n × (goal < n) }
-    ensures { result ≡ decision goal pull (board n excess estimates.now mark.now label.now) }
-{
-    if mark[goal] == rule::OPEN {
-        let first = first_dependence(mark, label, estimates, n, excess, goal);
-        if first == n {
-            return Decision::Found(label[goal]);
+        let out = first_marked(board.mark, board.table.n, rule::OUT);
+        match (self.choose(), out) {
+            (Choice::NoneOpen, None) => Decision::NoPath,
+            (Choice::Safe(s), _) => Decision::Deal(s),
+            (Choice::Stopped(_), None) => Decision::Stuck,
+            (Choice::Stopped(t), Some(_)) => Decision::Wait(t),
+            (Choice::NoneOpen, Some(t)) => Decision::Wait(t),
         }
-    }
-    let open = first_marked(mark, n, rule::OPEN);
-    let out = first_marked(mark, n, rule::OUT);
-    if open >= n {
-        if out >= n {
-            return Decision::NoPath;
-        }
-    }
-    let choice = choose(mark, label, key, estimates, n, excess, goal, pull);
-    match choice {
-        Choice::Safe(s) => Decision::Deal(s),
-        Choice::Stopped(t) => {
-            if out < n {
-                return Decision::Wait(t);
-            }
-            Decision::Stuck
-        }
-        Choice::NoneOpen => Decision::Wait(out),
     }
 }

@@ -1,7 +1,7 @@
 -- Refusals 8 to 11, which come before what a worker's call does, in this order.
 use Rattle.std.specs.Prelude.{Bool, List, ℕ, ltb, eqb}
 use Rattle.laws.specs.Truth.{provided}
-use Rattle.rule.specs.Refusals.{unfit, no_worker, not_searching, wrong_hands}
+use Rattle.rule.specs.declared.refusals.Refusal.TheVariants.{Unfit, NoWorker, NotSearching, WrongHands}
 use Rattle.desk.specs.declared.Machine.{Machine}
 use Rattle.desk.specs.declared.Answer.{Answer}
 use Rattle.desk.specs.Reply.{refused}
@@ -10,8 +10,8 @@ use Rattle.desk.specs.Fits.{fits}
 -- 8 "task or machine doesn't fit"; 9 "worker number not below k"; 10 "phase isn't 0"; 11 is the call's own: `ready` says what it asks of the worker's hands
 unfoldable pub admitted : Machine → List ℕ → List ℕ → List ℕ → ℕ → Bool → Answer → Answer
 admitted m held passages estimates worker ready call =
-    provided (fits m held passages estimates) (refused m unfit)
-    (provided (ltb worker m.k) (refused m no_worker)
-    (provided (eqb m.phase 0) (refused m not_searching)
-    (provided ready (refused m wrong_hands)
+    provided (fits m held passages estimates) (refused m Unfit)
+    (provided (ltb worker m.k) (refused m NoWorker)
+    (provided (eqb m.phase 0) (refused m NotSearching)
+    (provided ready (refused m WrongHands)
     call)))

@@ -1,15 +1,17 @@
 -- The answers to a list of events, taken one more at a time, what they leave as it was, and the numbers that replies are in a row.
-use Rattle.std.specs.Prelude.{◌≡◌, Bool, true, false, cond, ℕ, ◌+◌, ◌*◌, ◌/◌, ◌%◌, ◌≤◌, ◌<◌, length, get_or, set, take as front, leb, eqb}
+use Rattle.std.specs.Prelude.{◌≡◌, Bool, true, false, cond, Some, Ok, Err, ℕ, ◌+◌, ◌*◌, ◌/◌, ◌%◌, ◌≤◌, ◌<◌, length, get_or, set, take as front, leb, eqb}
 use Rattle.std.proofs.Math.Path.{refl, ap}
 use Rattle.std.proofs.Common.{◌∙◌, arith, add-one, length-set, take-suc, take_all, length-take-le}
 use mathlib.Core.List.{List, [], ◌∷◌, ◌++◌, map}
 use Rattle.std.proofs.lemmas.List.{length-map}
-use borrow.Author.Tests.{leb-true, eq-eqb, ne_eqb}
-use Rattle.laws.specs.Truth.{provided}
+use borrow.Author.Tests.{leb-true}
+use Rattle.laws.specs.Truth.{provided_ok}
 use Rattle.laws.specs.Part.{overlaid}
 use Rattle.laws.specs.Put.{Put, put_none, put_next, put_one}
 use Rattle.laws.specs.Map.{map_append}
-use Rattle.rule.specs.Refusals.{short_row, no_event}
+use Rattle.rule.specs.declared.refusals.Refusal.{Refusal}
+use Rattle.rule.specs.declared.refusals.Refusal.TheVariants.{BadSizes, BadEnds, BadWeights, BadPassage, BadEstimate, AbovePassage, AboveDetour, Unfit, NoWorker, NotSearching, WrongHands, NothingOut, NotFound, BrokenTrail, ShortBuffer, ShortRow, NoEvent}
+use Rattle.rule.specs.Refusals.{number_of, refusal_with}
 use Rattle.dealing.specs.declared.Decision.{Decision}
 use Rattle.dealing.specs.declared.Decision.TheVariants.{Found as FoundAt, NoPath as NoPathLeft, Deal, Stuck, Wait as WaitOn}
 use Rattle.dealing.specs.Decision.{decision}
@@ -21,15 +23,17 @@ use Rattle.desk.specs.Machine.{hands_of, held_by, task_of, board_of}
 use Rattle.desk.specs.Take.{act, take_step, take_of}
 use Rattle.desk.specs.Bring.{bring_step, bring_of}
 use Rattle.desk.specs.Laws.{admitted_either, sweep_leaves}
-use Rattle.desk.specs.Reply.{answer, refused, value_of, code_of, reply_with, reply_of}
-use Rattle.desk.specs.Calls.{Event, take, bring, worker_of, call, answers, replies, last_of, after}
-use Rattle.desk.specs.Morning.{event_of, events_of, events_right, morning_fault, morning_of}
+use Rattle.desk.specs.Reply.{answer, refused, value_of, code_of, refused_with, reply_with, reply_of}
+use Rattle.desk.specs.declared.Event.{Event}
+use Rattle.desk.specs.declared.Event.TheVariants.{Take, Bring}
+use Rattle.desk.specs.Calls.{worker_of, call, answers, replies, last_of, after}
+use Rattle.desk.specs.Morning.{event_of, events_of, morning_fault, morning_of}
 
 -- the worker of an event's number
 pub event_worker : (number : ℕ) → worker_of (event_of number) ≡ number % 65536
 event_worker number = go (eqb (number / 65536) 0)
   where
-    go : (b : Bool) → worker_of (cond b (take (number % 65536)) (bring (number % 65536))) ≡ number % 65536
+    go : (b : Bool) → worker_of (cond b (Take (number % 65536)) (Bring (number % 65536))) ≡ number % 65536
     go true = refl
     go false = refl
 
@@ -43,10 +47,10 @@ act_task passages estimates m held worker (WaitOn s) = refl
 
 pub call_task : (passages estimates : List ℕ) (m : Machine) (e : Event) → task_of (call passages estimates m e).machine passages estimates ≡ task_of m passages estimates
 unfolding take_of take_step bring_of bring_step
-call_task passages estimates m (take worker) =
+call_task passages estimates m (Take worker) =
     admitted_either m (hands_of m) passages estimates (λ a. task_of a.machine passages estimates ≡ task_of m passages estimates) worker _ _ (λ _ _. refl)
     (λ _ _. act_task passages estimates m (hands_of m) worker (decision m.goal m.pull (board_of m estimates)))
-call_task passages estimates m (bring worker) =
+call_task passages estimates m (Bring worker) =
     admitted_either m (hands_of m) passages estimates (λ a. task_of a.machine passages estimates ≡ task_of m passages estimates) worker _ _ (λ _ _. refl)
     (λ _ _. sweep_leaves (λ (x : Machine). task_of x passages estimates) (λ _ _ _ _ _. refl) m passages estimates (held_by (hands_of m) worker))
 
@@ -128,26 +132,42 @@ module _ (passages estimates : List ℕ) (m₀ : Machine) (events l₀ : List �
   served_end l m i w h = rw (← firsts_all events i h) (w.machine, w.row.done)
 
 -- a morning, by what its refusals come to
-pub morning_room : (events : List ℕ) (places : ℕ) → morning_fault events places ≡ 0 → length events ≤ places
+pub morning_room : (events : List ℕ) (places : ℕ) → morning_fault events places ≡ Ok tt → length events ≤ places
 unfolding morning_fault
-morning_room events places = go (leb (length events) places) refl
-  where
-    go : (b : Bool) → leb (length events) places ≡ b → ◌≡◌ {A = ℕ} (provided b short_row (provided (events_right events) no_event 0)) 0 → length events ≤ places
-    go true e z = leb-true (length events) places e
-    go false e z = absurd (omega arith)
+morning_room events places e = leb-true (length events) places (provided_ok (leb (length events) places) ShortRow _ e).0
 
-module _ (m : Machine) (passages estimates events row : List ℕ) (number : ℕ) (q : number ≡ morning_fault events (length row)) where
-  pub morning_refused : (number ≡ 0 → ⊥) → morning_of m passages estimates events row ≡ record { given = refused m number; row = row }
+module _ (m : Machine) (passages estimates events row : List ℕ) where
+  pub morning_refused : (refusal : Refusal) → Err refusal ≡ morning_fault events (length row) → morning_of m passages estimates events row ≡ record { given = refused m refusal; row = row }
   unfolding morning_of
-  morning_refused n = rw (← q, ne_eqb number 0 n)
+  morning_refused refusal q = rw (← q)
 
-  pub morning_served : number ≡ 0
+  pub morning_served : Ok tt ≡ morning_fault events (length row)
       → morning_of m passages estimates events row ≡ record {
         given = answer (after passages estimates m (events_of events)) Done;
         row = overlaid 0 (map code_of (replies passages estimates m (events_of events))) row;
       }
   unfolding morning_of
-  morning_served z = rw (← q, eq-eqb number 0 z)
+  morning_served q = rw (← q)
+
+-- a refusal comes back from its number
+pub refusal_back : (refusal : Refusal) → refusal_with (number_of refusal) ≡ Some refusal
+refusal_back BadSizes = refl
+refusal_back BadEnds = refl
+refusal_back BadWeights = refl
+refusal_back BadPassage = refl
+refusal_back BadEstimate = refl
+refusal_back AbovePassage = refl
+refusal_back AboveDetour = refl
+refusal_back Unfit = refl
+refusal_back NoWorker = refl
+refusal_back NotSearching = refl
+refusal_back WrongHands = refl
+refusal_back NothingOut = refl
+refusal_back NotFound = refl
+refusal_back BrokenTrail = refl
+refusal_back ShortBuffer = refl
+refusal_back ShortRow = refl
+refusal_back NoEvent = refl
 
 -- a reply comes back from its number, where the number that it carries has 32 bits
 code_parts : (case value : ℕ) → value < 4294967296 → reply_of (case * 4294967296 + value) ≡ reply_with case value
@@ -166,6 +186,6 @@ code_back (Found cost) l = code_parts 3 cost l
 code_back NoPath l = code_parts 4 0 l
 code_back (Wait s) l = code_parts 5 s l
 code_back (Read many) l = code_parts 6 many l
-code_back (Refused number) l = code_parts 7 number l
+code_back (Refused refusal) l = code_parts 7 (number_of refusal) l ∙ ap refused_with (refusal_back refusal)
 code_back Done l = code_parts 8 0 l
 code_back (Cut limit) l = code_parts 9 limit l

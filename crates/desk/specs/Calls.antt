@@ -3,20 +3,19 @@ use Rattle.std.specs.Prelude.{List, [], ◌∷◌, map, ℕ}
 use Rattle.desk.specs.declared.Machine.{Machine}
 use Rattle.desk.specs.declared.Reply.{Reply}
 use Rattle.desk.specs.declared.Answer.{Answer}
+use Rattle.desk.specs.declared.Event.{Event}
+use Rattle.desk.specs.declared.Event.TheVariants.{Take, Bring}
 use Rattle.desk.specs.Take.{take_of}
 use Rattle.desk.specs.Bring.{bring_of}
 
--- a call of a worker
-pub data Event : Type 0 where
-  take bring : ℕ → Event
-
+-- the worker of a call
 abbrev pub worker_of : Event → ℕ
-worker_of (take worker) = worker
-worker_of (bring worker) = worker
+worker_of (Take worker) = worker
+worker_of (Bring worker) = worker
 
 abbrev pub call : List ℕ → List ℕ → Machine → Event → Answer
-call passages estimates m (take worker) = take_of m passages estimates worker
-call passages estimates m (bring worker) = bring_of m passages estimates worker
+call passages estimates m (Take worker) = take_of m passages estimates worker
+call passages estimates m (Bring worker) = bring_of m passages estimates worker
 
 -- the answers in their order: whatever speaks of several calls speaks of these
 unfoldable pub answers : List ℕ → List ℕ → Machine → List Event → List Answer

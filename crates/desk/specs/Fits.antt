@@ -1,5 +1,5 @@
 -- "Fits (8)": the task and the machine go together.
-use Rattle.std.specs.Prelude.{Bool, ◌&&◌, List, ℕ, eqb}
+use Rattle.std.specs.Prelude.{Bool, ◌&&◌, is_ok, List, ℕ}
 use Rattle.checks.specs.Opening.{early_fault}
 use Rattle.checks.specs.Fits.{phase_right, marks_right, labels_right, keys_right, workers_right, held_once}
 use Rattle.desk.specs.declared.Machine.{Machine}
@@ -17,7 +17,7 @@ rows_fit n k phase mark label held =
 
 -- "conditions 1 to 4 hold of the machine's numbers and the lent slices": what no call changes
 abbrev pub task_fits : Machine → List ℕ → List ℕ → Bool
-task_fits m passages estimates = eqb (early_fault (task_of m passages estimates)) 0
+task_fits m passages estimates = is_ok (early_fault (task_of m passages estimates))
 
 -- order 8: "8 also where the stored key of a state below n isn't that"
 abbrev pub keys_fit : Machine → List ℕ → Bool

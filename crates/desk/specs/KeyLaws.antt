@@ -1,5 +1,5 @@
 -- Order 8, the stored keys: on a machine that fits they are the keys that Take goes by, and what a call makes of such a machine has right keys too, so that several calls look at them once.
-use Rattle.std.specs.Prelude.{◌≡◌, Bool, true, false, cond, ℕ, ◌+◌, ◌≤◌, ◌<◌, length, get_or, set, replicate, eqb}
+use Rattle.std.specs.Prelude.{◌≡◌, Bool, true, is_ok, Result, Ok, Err, ℕ, ◌+◌, ◌≤◌, ◌<◌, length, get_or, set, replicate}
 use Rattle.std.proofs.Math.Path.{refl, subst⁻¹}
 use Rattle.std.proofs.Common.{sym, ap, ◌∙◌, get_or-set_same}
 use mathlib.Core.List.{List, [], ◌∷◌}
@@ -15,6 +15,9 @@ use Rattle.laws.specs.Fold.{fold_stays}
 use Rattle.rule.specs.Task.{passage_count, far, cost, estimate}
 use Rattle.rule.specs.Marks.{unseen, waiting, out, finished, none}
 use Rattle.rule.specs.Rule.{key_of, stored_key}
+use Rattle.rule.specs.declared.refusals.Refusal.{Refusal}
+use Rattle.rule.specs.declared.refusals.Refusal.TheVariants.{BadSizes, BadEnds, BadWeights, BadPassage, BadEstimate, AbovePassage, AboveDetour, Unfit, NoWorker, NotSearching, WrongHands, NothingOut, NotFound, BrokenTrail, ShortBuffer, ShortRow, NoEvent}
+use Rattle.rule.specs.Refusals.{number_of}
 use Rattle.checks.specs.Opening.{Task, early_fault, fault}
 use Rattle.checks.specs.Fits.{key_right, keys_right}
 use Rattle.checks.specs.Laws.{right, fault_none, far_in, worker_holds}
@@ -24,15 +27,16 @@ use Rattle.dealing.specs.Board.{key}
 use Rattle.dealing.specs.Decision.{decision}
 use Rattle.dealing.specs.Laws.{Keyed, safe_is_open, deal_in, deal_safe}
 use Rattle.desk.specs.declared.Machine.{Machine}
-use Rattle.desk.specs.declared.Reply.TheVariants.{Opened}
 use Rattle.desk.specs.declared.Answer.{Answer}
 use Rattle.desk.specs.Machine.{with_mark, with_hands, hands_of, held_by, mark_of, label_of, task_of, board_of}
-use Rattle.desk.specs.Reply.{answer, refused, refusal_of}
+use Rattle.desk.specs.Reply.{refusal_of}
 use Rattle.desk.specs.Fits.{task_fits, keys_fit, is_sound, fits}
-use Rattle.desk.specs.Opening.{opened_machine, blank_machine, opening_of}
+use Rattle.desk.specs.Opening.{opened_machine, opened, opening_of}
 use Rattle.desk.specs.Take.{dealt, act, take_step, take_of}
 use Rattle.desk.specs.Bring.{Swept, swept, labelled, apply_passage, sweep_of, bring_step, bring_of}
-use Rattle.desk.specs.Calls.{Event, take, bring, call, after, answers}
+use Rattle.desk.specs.declared.Event.{Event}
+use Rattle.desk.specs.declared.Event.TheVariants.{Take, Bring}
+use Rattle.desk.specs.Calls.{call, after, answers}
 use Rattle.desk.specs.Laws.{start_in, Sized, Fitting, fitting, admitted_either, apply_either, sweep_leaves}
 
 -- a state that isn't unseen has its key stored
@@ -129,7 +133,7 @@ pub record Stays (passages estimates : List ℕ) (m x : Machine) : Type 0 where
 
 module _ (passages estimates : List ℕ) where
   sound_by : (m x : Machine) → task_of x passages estimates ≡ task_of m passages estimates → keys_fit x estimates ≡ true → is_sound m passages estimates ≡ true → is_sound x passages estimates ≡ is_sound m passages estimates
-  sound_by m x t k s = and_both (ap (λ (y : Task). eqb (early_fault y) 0) t ∙ and_left _ (keys_fit m estimates) s) k ∙ sym s
+  sound_by m x t k s = and_both (ap (λ (y : Task). is_ok (early_fault y)) t ∙ and_left _ (keys_fit m estimates) s) k ∙ sym s
 
   -- a machine that fits is sound
   pub fits_sound : (m : Machine) (held : List ℕ) → fits m held passages estimates ≡ true → is_sound m passages estimates ≡ true
@@ -174,10 +178,10 @@ module _ (passages estimates : List ℕ) where
 
   pub call_stays : (m : Machine) (e : Event) → Sized m → Stays passages estimates m (call passages estimates m e).machine
   unfolding take_of take_step bring_of
-  call_stays m (take worker) z =
+  call_stays m (Take worker) z =
       admitted_either m (hands_of m) passages estimates (λ a. Stays passages estimates m a.machine) worker _ _ (λ _ _. unchanged m z)
       (λ a _. take_stays m worker z (fitting m (hands_of m) passages estimates a.fit) (fits_sound m (hands_of m) a.fit) (decision m.goal m.pull (board_of m estimates)) refl)
-  call_stays m (bring worker) z =
+  call_stays m (Bring worker) z =
       admitted_either m (hands_of m) passages estimates (λ a. Stays passages estimates m a.machine) worker _ _ (λ _ _. unchanged m z)
       (λ a r. bring_stays m worker z (fitting m (hands_of m) passages estimates a.fit) (fits_sound m (hands_of m) a.fit) a.worker_in (eqb-false _ none (not-true _ r)))
 
@@ -190,8 +194,28 @@ module _ (passages estimates : List ℕ) where
   pub after_sound : (sound : Bool) (m₀ m : Machine) (es : List Event) → Sized m₀ → sound ≡ is_sound m₀ passages estimates → m ≡ after passages estimates m₀ es → sound ≡ is_sound m passages estimates
   after_sound sound m₀ m es z s e = s ∙ sym (after_stays m₀ es z) ∙ ap (λ (x : Machine). is_sound x passages estimates) (sym e)
 
+-- no refusal has the number 0
+number_above : (refusal : Refusal) → 0 < number_of refusal
+number_above BadSizes = omega arith
+number_above BadEnds = omega arith
+number_above BadWeights = omega arith
+number_above BadPassage = omega arith
+number_above BadEstimate = omega arith
+number_above AbovePassage = omega arith
+number_above AboveDetour = omega arith
+number_above Unfit = omega arith
+number_above NoWorker = omega arith
+number_above NotSearching = omega arith
+number_above WrongHands = omega arith
+number_above NothingOut = omega arith
+number_above NotFound = omega arith
+number_above BrokenTrail = omega arith
+number_above ShortBuffer = omega arith
+number_above ShortRow = omega arith
+number_above NoEvent = omega arith
+
 -- the machine that an accepted task starts with: the start has its key, every other state and place 0
-pub opened_keys : (t : Task) → fault t ≡ 0 → keys_fit (opened_machine t) t.estimates ≡ true
+pub opened_keys : (t : Task) → fault t ≡ Ok tt → keys_fit (opened_machine t) t.estimates ≡ true
 unfolding opened_machine
 opened_keys t e = keys_of t.estimates (opened_machine t) (λ s l. go s l (ℕ_discrete s t.start))
   where
@@ -212,18 +236,18 @@ opened_keys t e = keys_of t.estimates (opened_machine t) (λ s l. go s l (ℕ_di
         let inside : s < 256 = omega (arith, (right t (fault_none t e)).states) in
         rw (get_or-set_other {A = ℕ} (replicate 256 0) t.start s _ 0 q, get_or-set_other {A = ℕ} (replicate 256 unseen) t.start s waiting 0 q, get_or-replicate {A = ℕ} 256 s unseen 0 inside)
 
-opened_fits : (t : Task) → fault t ≡ 0 → task_fits (opened_machine t) t.passages t.estimates ≡ true
+opened_fits : (t : Task) → fault t ≡ Ok tt → task_fits (opened_machine t) t.passages t.estimates ≡ true
 unfolding opened_machine
-opened_fits t e = eq-eqb (early_fault t) 0 (fault_none t e)
+opened_fits t e = ap is_ok (fault_none t e)
 
 -- and so it is sound
 pub opened_sound : (t : Task) (a : Answer) → a ≡ opening_of t → refusal_of a.reply ≡ 0 → is_sound a.machine t.passages t.estimates ≡ true
 unfolding opening_of
-opened_sound t a e = subst⁻¹ Sound e (go (eqb (fault t) 0) refl)
+opened_sound t a e = subst⁻¹ Sound e (go (fault t) refl)
   where
     Sound : Answer → Type 0
     Sound x = refusal_of x.reply ≡ 0 → is_sound x.machine t.passages t.estimates ≡ true
 
-    go : (b : Bool) → eqb (fault t) 0 ≡ b → Sound (cond b (answer (opened_machine t) Opened) (refused blank_machine (fault t)))
-    go true q z = let f = eqb-true (fault t) 0 q in and_both (opened_fits t f) (opened_keys t f)
-    go false q z = absurd (eqb-false (fault t) 0 q z)
+    go : (r : Result (Unit {0}) Refusal) → fault t ≡ r → Sound (opened t r)
+    go (Ok u) q z = and_both (opened_fits t q) (opened_keys t q)
+    go (Err refusal) q z = absurd (omega (arith, z, number_above refusal))

@@ -1,17 +1,19 @@
 -- What the inner functions of the calls ask, what a machine that fits gives them, and what Bring's loop knows.
-use Rattle.std.specs.Prelude.{◌≡◌, Bool, not, ◌&&◌, List, [], ◌++◌, ℕ, ◌+◌, ◌-◌, ◌≤◌, ◌<◌, length, get_or, drop, ltb, leb, eqb}
-use Rattle.std.proofs.Math.Path.{refl, ap}
+use Rattle.std.specs.Prelude.{◌≡◌, Bool, cond, not, ◌&&◌, is_ok, Option, Some, None, is_some, Result, Ok, Err, List, [], ◌++◌, ℕ, ◌+◌, ◌-◌, ◌≤◌, ◌<◌, length, get_or, drop, ltb, leb, eqb}
+use Rattle.std.proofs.Math.Path.{refl, ap, subst⁻¹}
 use Rattle.std.proofs.Common.{sym, ◌∙◌, arith}
 use Rattle.std.proofs.Math.Bool.{true, false}
 use borrow.Author.Tests.{eqb-true, eqb-false, ltb-true, leb-true, not-true, eq-eqb, ne_eqb, lt-ltb, le-leb, lt-leb}
 use borrow.Rule.Slice.PartMut.{mid_of, put_mid}
-use Rattle.laws.specs.Truth.{and_left, and_right, cond_either, provided, provided_either, provided_both, provided_kept}
+use Rattle.laws.specs.Truth.{and_left, and_right, cond_either, provided, provided_either, provided_both, provided_ok, not_refused, passed}
 use Rattle.laws.specs.Fold.{fold, fold_zero, fold_more, fold_keeps}
 use Rattle.laws.specs.Part.{overlaid, put_overlaid}
-use Rattle.rule.specs.Task.{passage_count, near, far, cost, is_clear, estimate}
-use Rattle.rule.specs.Marks.{waiting, none}
-use Rattle.rule.specs.Refusals.{unfit, no_worker, not_searching, wrong_hands, nothing_out, not_found, broken_trail, short_buffer}
-use Rattle.rule.specs.Rule.{key_of, lowers}
+use Rattle.rule.specs.Task.{passage_count, near, far, cost, is_clear}
+use Rattle.rule.specs.Marks.{none}
+use Rattle.rule.specs.declared.refusals.Refusal.{Refusal}
+use Rattle.rule.specs.declared.refusals.Refusal.TheVariants.{Unfit, NoWorker, NotSearching, WrongHands, NothingOut, NotFound, BrokenTrail, ShortBuffer}
+use Rattle.rule.specs.Refusals.{number_of}
+use Rattle.rule.specs.Rule.{lowers}
 use Rattle.rule.specs.Laws.{WholeTable}
 use Rattle.checks.specs.Opening.{Task, early_fault, fault}
 use Rattle.checks.specs.Fits.{phase_right, marks_right, labels_right, workers_right}
@@ -25,7 +27,7 @@ use Rattle.trail.specs.Trail.{path}
 use Rattle.trail.specs.Laws.{Inside, Followed, states_back, path_followed, path_states}
 use Rattle.desk.specs.declared.Machine.{Machine}
 use Rattle.desk.specs.declared.Reply.TheVariants.{Read}
-use Rattle.desk.specs.Machine.{with_mark, with_label, with_via, with_key, task_of, trail_of, label_of, key_for, hands_of, held_by}
+use Rattle.desk.specs.Machine.{task_of, trail_of, mark_of, label_of, hands_of, held_by}
 use Rattle.desk.specs.declared.Answer.{Answer}
 use Rattle.desk.specs.Reply.{answer, refused}
 use Rattle.desk.specs.Fits.{rows_fit, task_fits, keys_fit, is_sound, fits}
@@ -34,7 +36,7 @@ use Rattle.desk.specs.Bring.{Swept, swept, labelled, apply_passage, sweep_of, fi
 use Rattle.desk.specs.Path.{PathReading, path_refused, path_of}
 
 -- a task that opening accepts starts at a place of the rows
-pub start_in : (t : Task) → fault t ≡ 0 → t.start < 256
+pub start_in : (t : Task) → fault t ≡ Ok tt → t.start < 256
 start_in t e =
     let r = right t (fault_none t e) in
     omega (arith, r.start_in, r.states)
@@ -55,10 +57,10 @@ pub record Fitting (m : Machine) (held passages estimates : List ℕ) : Type 0 w
   pub keys : keys_fit m estimates ≡ true
 
 -- where conditions 1 to 4 hold
-pub sound_task : (t : Task) → eqb (early_fault t) 0 ≡ true → Right t
-sound_task t e = right t (eqb-true (early_fault t) 0 e)
+pub sound_task : (t : Task) → is_ok (early_fault t) ≡ true → Right t
+sound_task t e = right t (passed (early_fault t) e)
 
-pub sound_sizes : (t : Task) (sound keys : Bool) → sound ≡ (eqb (early_fault t) 0 && keys) → sound ≡ true → (t.n ≤ 256) × (t.k ≤ 32)
+pub sound_sizes : (t : Task) (sound keys : Bool) → sound ≡ (is_ok (early_fault t) && keys) → sound ≡ true → (t.n ≤ 256) × (t.k ≤ 32)
 sound_sizes t sound keys s e = let r = sound_task t (and_left _ keys (sym s ∙ e)) in (r.states, r.workers)
 
 pub fitting : (m : Machine) (held passages estimates : List ℕ) → fits m held passages estimates ≡ true → Fitting m held passages estimates
@@ -77,12 +79,52 @@ fitting m held passages estimates e =
     }
 
 -- the ladder of 8, 9 and 10 over what the three conditions come to
-abbrev ladder : Bool → Bool → Bool → ℕ
-ladder a b c = provided a unfit (provided b no_worker (provided c not_searching 0))
+abbrev ladder : Bool → Bool → Bool → Result (Unit {0}) Refusal
+ladder a b c = provided a (Err Unfit) (provided b (Err NoWorker) (provided c (Err NotSearching) (Ok tt)))
 
--- the first of 8, 9 and 10 that applies, or 0, by whether the machine fits
-unfoldable pub call_fault : Bool → ℕ → ℕ → ℕ → ℕ
+-- the first of 8, 9 and 10 that applies, if one does, by whether the machine fits
+unfoldable pub call_fault : Bool → ℕ → ℕ → ℕ → Result (Unit {0}) Refusal
 call_fault fit k phase worker = ladder fit (ltb worker k) (eqb phase 0)
+
+-- where none applies
+pub call_passed : (fit : Bool) (k phase worker : ℕ) → call_fault fit k phase worker ≡ Ok tt → (fit ≡ true) × (worker < k) × (phase ≡ 0)
+unfolding call_fault
+call_passed fit k phase worker e =
+    let (is_fit, rest) = provided_ok fit Unfit _ e in
+    let (below, last) = provided_ok (ltb worker k) NoWorker _ rest in
+    (is_fit, ltb-true worker k below, eqb-true phase 0 (provided_ok (eqb phase 0) NotSearching _ last).0)
+
+-- the state that a worker holds, if it holds one
+abbrev pub holding : ℕ → Option ℕ
+holding state = cond (eqb state none) None (Some state)
+
+-- that, where none of 8, 9 and 10 applies
+abbrev pub hands_if : Result (Unit {0}) Refusal → ℕ → Result (Option ℕ) Refusal
+hands_if (Ok u) state = Ok (holding state)
+hands_if (Err refusal) state = Err refusal
+
+hands_found : (r : Result (Unit {0}) Refusal) (state : ℕ) (h : Option ℕ) → Ok h ≡ hands_if r state → (r ≡ Ok tt) × (h ≡ holding state)
+hands_found (Ok u) state h e = (refl, cc)
+hands_found (Err refusal) state h e = absurd (not_refused e)
+
+hands_refused : (r : Result (Unit {0}) Refusal) (state : ℕ) (refusal : Refusal) → Err refusal ≡ hands_if r state → r ≡ Err refusal
+hands_refused (Ok u) state refusal e = absurd (not_refused (sym e))
+hands_refused (Err other) state refusal e = sym (cc)
+
+-- a worker holds nothing where that is none, and holds the state that it is
+pub held_none : (state : ℕ) → eqb state none ≡ not (is_some (holding state))
+held_none state = go (eqb state none)
+  where
+    go : (b : Bool) → b ≡ not (is_some (cond b None (Some state)))
+    go true = refl
+    go false = refl
+
+pub held_some : (state s : ℕ) → Some s ≡ holding state → (s ≡ state) × (state ≡ none → ⊥)
+held_some state s e = go (eqb state none) refl e
+  where
+    go : (b : Bool) → eqb state none ≡ b → ◌≡◌ {A = Option ℕ} (Some s) (cond b None (Some state)) → (s ≡ state) × (state ≡ none → ⊥)
+    go true q e = cc
+    go false q e = (cc, eqb-false state none q)
 
 -- what is known once none of 8, 9 and 10 applies
 pub record Admitted (m : Machine) (held passages estimates : List ℕ) (worker : ℕ) : Type 0 where
@@ -96,51 +138,59 @@ pub fits_by : (m : Machine) (held passages estimates : List ℕ) (sound : Bool) 
 unfolding fits
 fits_by m held passages estimates sound s fit e = rw s at e
 
--- a call whose first refusal, as the code finds it, is `number`: conditions 1 to 4 and the keys come to `sound`
-module _ (m : Machine) (held passages estimates : List ℕ) (worker : ℕ) (sound : Bool) (number : ℕ) (s : sound ≡ is_sound m passages estimates)
-    (q : number ≡ call_fault (sound && rows_fit m.n m.k m.phase m.mark m.label held) m.k m.phase worker) where
-  found_fault : number ≡ call_fault (fits m held passages estimates) m.k m.phase worker
-  found_fault = q ∙ ap (λ (fit : Bool). call_fault fit m.k m.phase worker) (fits_by m held passages estimates sound s _ refl)
+-- a call by its worker's hands, or by its first refusal, as the code finds them: conditions 1 to 4 and the keys come to `sound`
+module _ (m : Machine) (passages estimates : List ℕ) (worker : ℕ) (sound : Bool) (s : sound ≡ is_sound m passages estimates) where
+  abbrev held : List ℕ
+  held = hands_of m
 
-  pub call_admitted : number ≡ 0 → Admitted m held passages estimates worker
-  unfolding call_fault
-  call_admitted z =
-      let (fit, rest) = provided_kept (fits m held passages estimates) unfit _ (λ q. omega arith) (sym found_fault ∙ z) in
-      let (below, last) = provided_kept (ltb worker m.k) no_worker _ (λ q. omega arith) rest in
-      record { fit = fit; worker_in = ltb-true worker m.k below; searching = eqb-true m.phase 0 (provided_kept (eqb m.phase 0) not_searching 0 (λ q. omega arith) last).0 }
+  abbrev fault_found : Result (Unit {0}) Refusal
+  fault_found = call_fault (sound && rows_fit m.n m.k m.phase m.mark m.label held) m.k m.phase worker
+
+  as_fits : fault_found ≡ call_fault (fits m held passages estimates) m.k m.phase worker
+  as_fits = ap (λ (fit : Bool). call_fault fit m.k m.phase worker) (fits_by m held passages estimates sound s _ refl)
 
   -- a call that is turned away
-  pub turned_away : (ready : Bool) (call : Answer) → (number ≡ 0 → ⊥) → refused m number ≡ admitted m held passages estimates worker ready call
+  pub turned_away : (refusal : Refusal) → Err refusal ≡ hands_if fault_found (held_by held worker) → (ready : Bool) (call : Answer) → refused m refusal ≡ admitted m held passages estimates worker ready call
   unfolding call_fault admitted
-  turned_away ready call n = rw found_fault (go (fits m held passages estimates) (ltb worker m.k) (eqb m.phase 0) (λ z. n (found_fault ∙ z)))
+  turned_away refusal e ready call = go (fits m held passages estimates) (ltb worker m.k) (eqb m.phase 0) (sym as_fits ∙ hands_refused fault_found (held_by held worker) refusal e)
     where
-      go : (a b c : Bool) → (ladder a b c ≡ 0 → ⊥)
-          → refused m (ladder a b c) ≡ provided a (refused m unfit) (provided b (refused m no_worker) (provided c (refused m not_searching) (provided ready (refused m wrong_hands) call)))
-      go false b c n = refl
-      go true false c n = refl
-      go true true false n = refl
-      go true true true n = absurd (n refl)
+      go : (a b c : Bool) → ladder a b c ≡ Err refusal
+          → refused m refusal ≡ provided a (refused m Unfit) (provided b (refused m NoWorker) (provided c (refused m NotSearching) (provided ready (refused m WrongHands) call)))
+      go false b c e = ap (refused m) (sym (cc))
+      go true false c e = ap (refused m) (sym (cc))
+      go true true false e = ap (refused m) (sym (cc))
+      go true true true e = absurd (not_refused e)
+
+  -- a worker that may call, by what it holds
+  module _ (h : Option ℕ) (e : Ok h ≡ hands_if fault_found (held_by held worker)) where
+    pub may_call : Admitted m held passages estimates worker
+    may_call =
+        let (fit, below, searching) = call_passed _ _ _ _ (sym as_fits ∙ (hands_found fault_found (held_by held worker) h e).0) in
+        record { fit = fit; worker_in = below; searching = searching }
+
+    pub hands_hold : h ≡ holding (held_by held worker)
+    hands_hold = (hands_found fault_found (held_by held worker) h e).1
 
 -- what holds of each refusal in place of two calls, and of the two where they go on, holds of whatever they are answered
 pub admitted_both : (m : Machine) (held passages estimates : List ℕ) (P : Answer → Answer → Type 0) (worker : ℕ) (ready : Bool) (call other : Answer)
-    → ((number : ℕ) → number ≤ 11 → P (refused m number) (refused m number)) → (Admitted m held passages estimates worker → ready ≡ true → P call other)
+    → ((refusal : Refusal) → number_of refusal ≤ 11 → P (refused m refusal) (refused m refusal)) → (Admitted m held passages estimates worker → ready ≡ true → P call other)
     → P (admitted m held passages estimates worker ready call) (admitted m held passages estimates worker ready other)
 unfolding admitted
 admitted_both m held passages estimates P worker ready call other refusal goes =
-    provided_both P (fits m held passages estimates) _ _ _ (refusal unfit (omega arith))
-    (λ f. provided_both P (ltb worker m.k) _ _ _ (refusal no_worker (omega arith))
-    (λ l. provided_both P (eqb m.phase 0) _ _ _ (refusal not_searching (omega arith))
-    (λ p. provided_both P ready _ call other (refusal wrong_hands (omega arith))
+    provided_both P (fits m held passages estimates) _ _ _ (refusal Unfit (omega arith))
+    (λ f. provided_both P (ltb worker m.k) _ _ _ (refusal NoWorker (omega arith))
+    (λ l. provided_both P (eqb m.phase 0) _ _ _ (refusal NotSearching (omega arith))
+    (λ p. provided_both P ready _ call other (refusal WrongHands (omega arith))
     (λ r. goes (record { fit = f; worker_in = ltb-true worker m.k l; searching = eqb-true m.phase 0 p }) r))))
 
 -- the same of one call
-pub admitted_either : (m : Machine) (held passages estimates : List ℕ) (P : Answer → Type 0) (worker : ℕ) (ready : Bool) (call : Answer) → ((number : ℕ) → number ≤ 11 → P (refused m number))
+pub admitted_either : (m : Machine) (held passages estimates : List ℕ) (P : Answer → Type 0) (worker : ℕ) (ready : Bool) (call : Answer) → ((refusal : Refusal) → number_of refusal ≤ 11 → P (refused m refusal))
     → (Admitted m held passages estimates worker → ready ≡ true → P call) → P (admitted m held passages estimates worker ready call)
 admitted_either m held passages estimates P worker ready call refusal goes = admitted_both m held passages estimates (λ x _. P x) worker ready call call refusal goes
 
 -- one whose worker's hands aren't ready, and one that goes on
 module _ (m : Machine) (held passages estimates : List ℕ) (worker : ℕ) (ready : Bool) (call : Answer) where
-  pub not_ready : Admitted m held passages estimates worker → ready ≡ false → refused m wrong_hands ≡ admitted m held passages estimates worker ready call
+  pub not_ready : Admitted m held passages estimates worker → ready ≡ false → refused m WrongHands ≡ admitted m held passages estimates worker ready call
   unfolding admitted
   not_ready a r = rw (a.fit, lt-ltb worker m.k a.worker_in, eq-eqb m.phase 0 a.searching, r)
 
@@ -245,6 +295,10 @@ module _ (m₀ m : Machine) (passages estimates : List ℕ) (s many i : ℕ) (r 
       ∙ fold_keeps (apply_passage passages estimates s (label_of m₀ s)) (λ (w : Swept). task_of w.machine passages estimates)
       (λ j w. apply_either (λ (v : Swept). task_of v.machine passages estimates ≡ task_of w.machine passages estimates) passages estimates s (label_of m₀ s) j w refl refl) (swept m₀ 0) i
 
+  -- so that a far end's new label can be set
+  pub run_asks : Carried m₀ passages estimates s → (end : ℕ) → end ≡ far passages i → (m₀.n ≡ m.n) × (m.goal < m.n) × (end < m.n) × (i < 65536)
+  run_asks k end e = subst⁻¹ (λ (t : Task). (m₀.n ≡ t.n) × (t.goal < t.n) × (end < t.n) × (i < 65536)) run_task (refl, k.goal, rw e (k.fars i l), omega (arith, k.few))
+
   -- the passage is another state's
   pub run_skip : (near passages i ≡ s → ⊥) → Run m₀ m passages estimates s many (i + 1)
   unfolding apply_passage
@@ -256,47 +310,48 @@ module _ (m₀ m : Machine) (passages estimates : List ℕ) (s many i : ℕ) (r 
     unfolding apply_passage
     run_blocked k = more m many (omega arith) (rw (eq-eqb (near passages i) s e, k))
 
-    module _ (k : is_clear passages i ≡ true) (end sum : ℕ) (et : end ≡ far passages i) (es : sum ≡ label_of m₀ s + cost passages i) where
-      pub run_kept : lowers (get_or m.mark end 0) (label_of m end) sum ≡ false → Run m₀ m passages estimates s many (i + 1)
+    module _ (k : is_clear passages i ≡ true) (end sum : ℕ) (et : end ≡ far passages i) (es : sum ≡ label_of m₀ s + cost passages i)
+        (lowered : Bool) (h : lowered ≡ lowers (mark_of m end) (label_of m end) sum)
+        (m' : Machine) (q : m' ≡ cond (lowers (mark_of m end) (label_of m end) sum) (labelled m estimates end sum i) m) where
+      pub run_kept : lowered ≡ false → Run m₀ m' passages estimates s many (i + 1)
       unfolding apply_passage
-      run_kept h = more m many (omega arith) (rw (eq-eqb (near passages i) s e, k, ← et, ← es, h))
+      run_kept z = more m' many (omega arith) (rw (eq-eqb (near passages i) s e, k, ← et, ← es, q, ← h, z))
 
-      pub run_set : (x : ℕ) → x ≡ key_for m₀ estimates end sum → lowers (get_or m.mark end 0) (label_of m end) sum ≡ true
-          → Run m₀ (with_key (with_via (with_label (with_mark m end waiting) end sum) end i) end x) passages estimates s (many + 1) (i + 1)
+      pub run_set : lowered ≡ true → Run m₀ m' passages estimates s (many + 1) (i + 1)
       unfolding apply_passage
-      run_set x q h = more _ (many + 1) (omega arith) (rw (eq-eqb (near passages i) s e, k, ← et, ← es, h, q ∙ ap (λ (t : Task). key_of sum t.pull (estimate estimates t.n end t.goal)) (sym run_task)))
+      run_set z = more m' (many + 1) (omega arith) (rw (eq-eqb (near passages i) s e, k, ← et, ← es, q, ← h, z))
 
 -- path reading, by what it finds
 module _ (m : Machine) (passages estimates buffer : List ℕ) (at : ℕ) where
   -- what holds of every refusal, which is never 12, and of a path that the buffer has room for, holds of whatever is read
-  pub path_either : (P : PathReading → Type 0) → ((number : ℕ) → (number ≡ nothing_out → ⊥) → P (path_refused m buffer number))
+  pub path_either : (P : PathReading → Type 0) → ((refusal : Refusal) → (refusal ≡ NothingOut → ⊥) → P (path_refused m buffer refusal))
       → ((length (path (trail_of m passages)) ≡ 0 → ⊥) → length (path (trail_of m passages)) ≤ length buffer - at
       → P (record { given = answer m (Read (length (path (trail_of m passages)))); buffer = overlaid at (path (trail_of m passages)) buffer }))
       → P (path_of m passages estimates buffer at)
   unfolding path_of
   path_either P refusal reads =
-      provided_either P (fits m (hands_of m) passages estimates) _ _ (refusal unfit (omega arith))
-      (λ _. provided_either P (eqb m.phase 1) _ _ (refusal not_found (omega arith))
-      (λ _. provided_either P (not (eqb (length (path (trail_of m passages))) 0)) _ _ (refusal broken_trail (omega arith))
-      (λ some. provided_either P (leb (length (path (trail_of m passages))) (length buffer - at)) _ _ (refusal short_buffer (omega arith))
+      provided_either P (fits m (hands_of m) passages estimates) _ _ (refusal Unfit (λ q. cc))
+      (λ _. provided_either P (eqb m.phase 1) _ _ (refusal NotFound (λ q. cc))
+      (λ _. provided_either P (not (eqb (length (path (trail_of m passages))) 0)) _ _ (refusal BrokenTrail (λ q. cc))
+      (λ some. provided_either P (leb (length (path (trail_of m passages))) (length buffer - at)) _ _ (refusal ShortBuffer (λ q. cc))
       (λ room. reads (eqb-false _ 0 (not-true _ some)) (leb-true _ _ room)))))
 
-  pub path_unfit : fits m (hands_of m) passages estimates ≡ false → path_of m passages estimates buffer at ≡ path_refused m buffer unfit
+  pub path_unfit : fits m (hands_of m) passages estimates ≡ false → path_of m passages estimates buffer at ≡ path_refused m buffer Unfit
   unfolding path_of
   path_unfit f = rw f
 
   module _ (f : fits m (hands_of m) passages estimates ≡ true) where
-    pub path_early : (m.phase ≡ 1 → ⊥) → path_of m passages estimates buffer at ≡ path_refused m buffer not_found
+    pub path_early : (m.phase ≡ 1 → ⊥) → path_of m passages estimates buffer at ≡ path_refused m buffer NotFound
     unfolding path_of
     path_early p = rw (f, ne_eqb m.phase 1 p)
 
     module _ (p : m.phase ≡ 1) (many : ℕ) (q : many ≡ length (path (trail_of m passages))) where
-      pub path_broken : many ≡ 0 → path_of m passages estimates buffer at ≡ path_refused m buffer broken_trail
+      pub path_broken : many ≡ 0 → path_of m passages estimates buffer at ≡ path_refused m buffer BrokenTrail
       unfolding path_of
       path_broken z = rw (f, eq-eqb m.phase 1 p, ← q, eq-eqb many 0 z)
 
       module _ (z : many ≡ 0 → ⊥) where
-        pub path_short : length buffer - at < many → path_of m passages estimates buffer at ≡ path_refused m buffer short_buffer
+        pub path_short : length buffer - at < many → path_of m passages estimates buffer at ≡ path_refused m buffer ShortBuffer
         unfolding path_of
         path_short l = rw (f, eq-eqb m.phase 1 p, ← q, ne_eqb many 0 z, lt-leb many (length buffer - at) l)
 

@@ -12,6 +12,7 @@ pub mod Calls
 pub mod Morning
 pub mod CallLaws
 pub mod Laws
+pub mod StepLaws
 pub mod KeyLaws
 pub mod ToldLaws
 pub mod LimitedLaws

@@ -1,8 +1,9 @@
 -- Opening: the machine that a task starts with, or refusals 1 to 7 beside a machine of zeros.
-use Rattle.std.specs.Prelude.{cond, set, replicate, eqb}
+use Rattle.std.specs.Prelude.{Result, Ok, Err, set, replicate}
 use Rattle.rule.specs.Task.{estimate}
 use Rattle.rule.specs.Marks.{unseen, waiting, none}
 use Rattle.rule.specs.Rule.{key_of}
+use Rattle.rule.specs.declared.refusals.Refusal.{Refusal}
 use Rattle.checks.specs.Opening.{Task, fault}
 use Rattle.desk.specs.declared.Machine.{Machine}
 use Rattle.desk.specs.declared.Reply.TheVariants.{Opened}
@@ -44,5 +45,10 @@ blank_machine = record {
   key = replicate 256 0;
 }
 
+-- by what the checks of opening found
+abbrev pub opened : Task → Result (Unit {0}) Refusal → Answer
+opened t (Ok u) = answer (opened_machine t) Opened
+opened t (Err refusal) = refused blank_machine refusal
+
 unfoldable pub opening_of : Task → Answer
-opening_of t = cond (eqb (fault t) 0) (answer (opened_machine t) Opened) (refused blank_machine (fault t))
+opening_of t = opened t (fault t)

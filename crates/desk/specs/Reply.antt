@@ -1,6 +1,8 @@
 -- Replies: a machine handed back with a reply beside it. Each case has a number, which is ours (the document numbers only refusals), and the value that the document gives it.
 -- A case that is added, or gains a number, is added here; what callers make of one case they say by `when`.
-use Rattle.std.specs.Prelude.{cond, ℕ, ◌+◌, ◌*◌, ◌/◌, ◌%◌, eqb}
+use Rattle.std.specs.Prelude.{cond, Option, Some, None, ℕ, ◌+◌, ◌*◌, ◌/◌, ◌%◌, eqb}
+use Rattle.rule.specs.declared.refusals.Refusal.{Refusal}
+use Rattle.rule.specs.Refusals.{number_of, refusal_with}
 use Rattle.desk.specs.declared.Machine.{Machine}
 use Rattle.desk.specs.declared.Reply.{Reply}
 use Rattle.desk.specs.declared.Reply.TheVariants.{Opened, Took, Brought, Found, NoPath, Wait, Read, Refused, Done, Cut}
@@ -11,8 +13,8 @@ abbrev pub answer : Machine → Reply → Answer
 answer m r = record { machine = m; reply = r }
 
 -- "Nothing is written, the machine comes back as it went in"
-abbrev pub refused : Machine → ℕ → Answer
-refused m number = answer m (Refused number)
+abbrev pub refused : Machine → Refusal → Answer
+refused m refusal = answer m (Refused refusal)
 
 -- the number of the case
 abbrev pub case_of : Reply → ℕ
@@ -23,7 +25,7 @@ case_of (Found cost) = 3
 case_of NoPath = 4
 case_of (Wait s) = 5
 case_of (Read many) = 6
-case_of (Refused number) = 7
+case_of (Refused refusal) = 7
 case_of Done = 8
 case_of (Cut limit) = 9
 
@@ -36,7 +38,7 @@ value_of (Found cost) = cost
 value_of NoPath = 0
 value_of (Wait s) = s
 value_of (Read many) = many
-value_of (Refused number) = number
+value_of (Refused refusal) = number_of refusal
 value_of Done = 0
 value_of (Cut limit) = limit
 
@@ -65,7 +67,11 @@ refusal_of r = when refusal r (λ number. number) 0
 unfoldable pub code_of : Reply → ℕ
 code_of r = case_of r * 4294967296 + value_of r
 
--- and back: the reply of a case with a value; Opened where there is no such case
+-- and back: the reply of a case with a value; Opened where there is no such case, or no refusal has the value for its number
+abbrev pub refused_with : Option Refusal → Reply
+refused_with (Some refusal) = Refused refusal
+refused_with None = Opened
+
 abbrev pub reply_with : ℕ → ℕ → Reply
 reply_with case value =
     cond (eqb case 1) (Took value)
@@ -74,7 +80,7 @@ reply_with case value =
     (cond (eqb case 4) NoPath
     (cond (eqb case 5) (Wait value)
     (cond (eqb case 6) (Read value)
-    (cond (eqb case 7) (Refused value)
+    (cond (eqb case 7) (refused_with (refusal_with value))
     (cond (eqb case 8) Done
     (cond (eqb case 9) (Cut value)
     Opened))))))))

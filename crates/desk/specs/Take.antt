@@ -1,7 +1,7 @@
 -- "Take(worker)": what each of its five steps does to the machine, and the refusals 8 to 11 before them.
 use Rattle.std.specs.Prelude.{List, ℕ, set, eqb}
 use Rattle.rule.specs.Marks.{out, none}
-use Rattle.rule.specs.Refusals.{nothing_out}
+use Rattle.rule.specs.declared.refusals.Refusal.TheVariants.{NothingOut}
 use Rattle.dealing.specs.declared.Decision.{Decision}
 use Rattle.dealing.specs.declared.Decision.TheVariants.{Found as FoundAt, NoPath as NoPathLeft, Deal, Stuck, Wait as WaitOn}
 use Rattle.dealing.specs.Decision.{decision}
@@ -21,7 +21,7 @@ abbrev pub act : Machine → List ℕ → ℕ → Decision → Answer
 act m held worker (FoundAt cost) = answer (with_phase m 1) (Found cost)
 act m held worker NoPathLeft = answer (with_phase m 2) NoPath
 act m held worker (Deal s) = answer (dealt m held worker s) (Took s)
-act m held worker Stuck = refused m nothing_out
+act m held worker Stuck = refused m NothingOut
 act m held worker (WaitOn s) = answer m (Wait s)
 
 unfoldable pub take_step : Machine → List ℕ → List ℕ → ℕ → Answer

@@ -3,6 +3,7 @@ use Rattle.std.specs.Prelude.{◌≡◌, refl, List, ℕ, ◌≤◌, ◌<◌}
 use Rattle.std.proofs.Math.Path.{ap}
 use Rattle.std.proofs.Common.{◌∙◌}
 use native.Mathlib.Omega.{arith}
+use Rattle.rule.specs.declared.refusals.Refusal.{Refusal}
 use Rattle.dealing.specs.declared.Decision.{Decision}
 use Rattle.dealing.specs.declared.Decision.TheVariants.{Found as FoundAt, NoPath as NoPathLeft, Deal, Stuck, Wait as WaitOn}
 use Rattle.dealing.specs.Decision.{decision}
@@ -14,7 +15,9 @@ use Rattle.desk.specs.Reply.{case_of, value_of, took, found, when, code_of}
 use Rattle.desk.specs.Take.{dealt, act, take_step, take_of}
 use Rattle.desk.specs.Limited.{limited_of}
 use Rattle.desk.specs.Bring.{bring_of, bring_step}
-use Rattle.desk.specs.Calls.{Event, take, bring, call}
+use Rattle.desk.specs.declared.Event.{Event}
+use Rattle.desk.specs.declared.Event.TheVariants.{Take, Bring}
+use Rattle.desk.specs.Calls.{call}
 use Rattle.desk.specs.Laws.{admitted_either, Placed, placed, fitting}
 use Rattle.desk.specs.LimitedLaws.{limited_ends}
 
@@ -45,7 +48,7 @@ module _ (m : Machine) (passages estimates : List ℕ) (worker : ℕ) where
   pub take_told : (take_of m passages estimates worker).machine ≡ taken m worker (take_of m passages estimates worker).reply
   unfolding take_of take_step
   take_told =
-      admitted_either m (hands_of m) passages estimates (λ a. a.machine ≡ taken m worker a.reply) worker _ _ (λ number l. refl)
+      admitted_either m (hands_of m) passages estimates (λ a. a.machine ≡ taken m worker a.reply) worker _ _ (λ turned l. refl)
       (λ a h. act_told m worker (decision m.goal m.pull (board_of m estimates)))
 
   -- the state that a Take deals, and the worker that it is dealt to, have places in the rows
@@ -60,12 +63,12 @@ module _ (m : Machine) (passages estimates : List ℕ) (worker : ℕ) where
 
 -- the same of a limited Take
 module _ (m : Machine) (passages estimates : List ℕ) (worker limit : ℕ) where
-  pub limited_told : (limited_of m passages estimates worker limit).machine ≡ taken m worker (limited_of m passages estimates worker limit).reply
-  limited_told = limited_ends m passages estimates worker limit (λ c. c.machine ≡ taken m worker c.reply) (λ number l. refl) (λ l k. refl) (λ d made s. act_told m worker d)
+  pub limited_told : (limited_of m passages estimates worker limit).answer.machine ≡ taken m worker (limited_of m passages estimates worker limit).answer.reply
+  limited_told = limited_ends m passages estimates worker limit (λ c. c.answer.machine ≡ taken m worker c.answer.reply) (λ turned l. refl) (λ l k. refl) (λ d made s. act_told m worker d)
 
-  pub limited_dealt : (s : ℕ) → (limited_of m passages estimates worker limit).reply ≡ Took s → (s < 256) × (worker < 32)
+  pub limited_dealt : (s : ℕ) → (limited_of m passages estimates worker limit).answer.reply ≡ Took s → (s < 256) × (worker < 32)
   limited_dealt =
-      limited_ends m passages estimates worker limit (λ c. (s : ℕ) → c.reply ≡ Took s → (s < 256) × (worker < 32)) (λ number l s e. absurd (omega (arith, ap case_of e)))
+      limited_ends m passages estimates worker limit (λ c. (s : ℕ) → c.answer.reply ≡ Took s → (s < 256) × (worker < 32)) (λ number l s e. absurd (omega (arith, ap case_of e)))
       (λ l k s e. absurd (omega (arith, ap case_of e))) (λ d made w s e. (act_placed m worker d w.in_rows s e, w.worker_in))
 
   -- it makes at most 65,280 comparisons
@@ -73,9 +76,9 @@ module _ (m : Machine) (passages estimates : List ℕ) (worker limit : ℕ) wher
   limited_few = limited_ends m passages estimates worker limit (λ c. c.comparisons ≤ 65280) (λ number l. omega arith) (λ l k. omega arith) (λ d made s. s.few)
 
   -- and its reply as a number leaves room above it for them
-  pub limited_narrow : code_of (limited_of m passages estimates worker limit).reply < 1099511627776
+  pub limited_narrow : code_of (limited_of m passages estimates worker limit).answer.reply < 1099511627776
   unfolding code_of
-  limited_narrow = limited_ends m passages estimates worker limit (λ c. code_of c.reply < 1099511627776) (λ number l. omega arith) (λ l k. omega arith) (λ d made s. narrow d s.in_rows s.low)
+  limited_narrow = limited_ends m passages estimates worker limit (λ c. code_of c.answer.reply < 1099511627776) (λ number l. omega arith) (λ l k. omega arith) (λ d made s. narrow d s.in_rows s.low)
     where
       narrow : (d : Decision) → Placed d → ((cost : ℕ) → d ≡ FoundAt cost → cost ≤ 255000000) → code_of (act m (hands_of m) worker d).reply < 1099511627776
       narrow (FoundAt cost) k low = omega (arith, low cost refl)
@@ -85,8 +88,8 @@ module _ (m : Machine) (passages estimates : List ℕ) (worker limit : ℕ) wher
       narrow (WaitOn s) k low = omega arith
 
 -- "Nothing is written, the machine comes back as it went in": of every worker's call, whatever machine and slices it is given
-pub call_refused : (m : Machine) (passages estimates : List ℕ) (e : Event) (number : ℕ) → (call passages estimates m e).reply ≡ Refused number → (call passages estimates m e).machine ≡ m
+pub call_refused : (m : Machine) (passages estimates : List ℕ) (e : Event) (refusal : Refusal) → (call passages estimates m e).reply ≡ Refused refusal → (call passages estimates m e).machine ≡ m
 unfolding bring_of bring_step
-call_refused m passages estimates (take worker) number = λ q. take_told m passages estimates worker ∙ ap (taken m worker) q
-call_refused m passages estimates (bring worker) number =
-    admitted_either m (hands_of m) passages estimates (λ a. a.reply ≡ Refused number → a.machine ≡ m) worker _ _ (λ _ l q. refl) (λ a h q. absurd (omega (arith, ap case_of q)))
+call_refused m passages estimates (Take worker) refusal = λ q. take_told m passages estimates worker ∙ ap (taken m worker) q
+call_refused m passages estimates (Bring worker) refusal =
+    admitted_either m (hands_of m) passages estimates (λ a. a.reply ≡ Refused refusal → a.machine ≡ m) worker _ _ (λ _ l q. refl) (λ a h q. absurd (omega (arith, ap case_of q)))

@@ -1,57 +1,74 @@
 // The limited Take: Take's refusals and steps, by a test that compares fewer states and is cut short at a limit of comparisons.
 ghost use Rattle.std.specs.Prelude.{◌≡◌, ◌<◌};
-ghost use Rattle.desk.specs.Machine.{hands_of};
-ghost use Rattle.desk.specs.Take.{act};
-ghost use Rattle.desk.specs.Laws.{Placed};
-ghost use Rattle.desk.specs.Limited.{counted_refusal, limited_of};
+ghost use Rattle.rule.specs.Laws.{WholeTable};
+ghost use Rattle.dealing.specs.Laws.{Keyed};
+ghost use Rattle.desk.specs.declared.Reply.TheVariants.{Refused};
+ghost use Rattle.desk.specs.Machine.{board_of};
+ghost use Rattle.desk.specs.Fits.{is_sound};
+ghost use Rattle.desk.specs.Limited.{limited_on, limited_of};
+ghost use Rattle.desk.specs.StepLaws.{LeavesCounted};
 
-use super::{Answer, Counted, Machine, Reply, fits};
-use dealing::{Decision, Limited};
-use rule::refusals;
+use super::{Answer, Counted, Machine, Reply};
+use dealing::{Board, Decided, Ranked};
+use rule::{Refusal, Table};
 
 // A refusal made no comparison.
-pub fn refused(m: Machine, number: u8) -> Counted
-    ensures { result ≡ counted_refusal m number }
+pub fn refused(refusal: Refusal) -> (Reply, usize)
+    ensures { result ≡ (Refused refusal, 0) }
 {
-    Counted {
-        machine: m,
-        reply: Reply::Refused(number),
-        comparisons: 0,
-    }
+    (Reply::Refused(refusal), 0)
 }
 
 impl Machine {
-    // What each step does to the machine. Take does the same where the machine stands, to spare it two copies.
-    pub fn act(mut self, worker: usize, decision: Decision) -> Answer
-        requires { Placed decision × (worker < 32) }
-        ensures { result ≡ act self (hands_of self) worker decision }
+    // Which of its steps a limited Take comes to, and by how many comparisons; none where the limit cuts it short. What is compared
+    // is put together here as for a Take: the contract of a function that lent it couldn't say which parts of the machine it lends,
+    // and each contract here determines its answer.
+    pub fn decide_limited<'a>(&'a self, estimates: &'a [u32], limit: usize) -> Option<Decided>
+        requires { Keyed self.now.goal self.now.pull (board_of self.now estimates.now) self.now.key × WholeTable estimates.now self.now.n × (self.now.goal < self.now.n) }
+        ensures { result ≡ limited_on self.now estimates.now limit }
     {
-        let reply = match decision {
-            Decision::Found(cost) => {
-                self.phase = 1;
-                Reply::Found(cost)
-            }
-            Decision::NoPath => {
-                self.phase = 2;
-                Reply::NoPath
-            }
-            Decision::Deal(s) => {
-                let number = s as u16;
-                self.mark[s] = rule::OUT;
-                self.held[worker] = number;
-                Reply::Took(number)
-            }
-            Decision::Stuck => Reply::Refused(refusals::NOTHING_OUT),
-            Decision::Wait(s) => Reply::Wait(s as u16),
+        let table = Table {
+            n: self.n,
+            estimates,
         };
-        Answer {
-            machine: self,
-            reply: reply,
+        let board = Board {
+            table,
+            excess: self.excess,
+            mark: &self.mark,
+            label: &self.label,
+        };
+        let ranked = Ranked {
+            board,
+            goal: self.goal,
+            pull: self.pull,
+            key: &self.key,
+        };
+        ranked.decide_limited(limit)
+    }
+
+    // The limited Take, where conditions 1 to 4 and the keys were looked at before: the reply, and how many comparisons were made.
+    pub fn limited_checked(
+        &mut self,
+        sound: bool,
+        passages: &[u32],
+        estimates: &[u32],
+        worker: usize,
+        limit: usize,
+    ) -> Result<(Reply, usize), Refusal>
+        requires { sound ≡ is_sound self.old passages.now estimates.now }
+        ensures { LeavesCounted result self.new (limited_of self.old passages.now estimates.now worker limit) }
+    {
+        if self.hands(sound, worker)?.is_some() {
+            return Err(Refusal::WrongHands);
+        }
+        match self.decide_limited(estimates, limit) {
+            None => Ok((Reply::Cut(limit as u32), limit)),
+            Some(decided) => Ok((self.act(worker, decided.decision)?, decided.comparisons)),
         }
     }
 
     pub fn take_limited(
-        self,
+        mut self,
         passages: &[u32],
         estimates: &[u32],
         worker: usize,
@@ -59,62 +76,16 @@ impl Machine {
     ) -> Counted
         ensures { result ≡ limited_of self passages.now estimates.now worker limit }
     {
-        let sound = fits::sound(
-            self.n,
-            self.k,
-            self.start,
-            self.goal,
-            self.pull,
-            self.excess,
-            &self.mark,
-            &self.label,
-            &self.key,
-            passages,
-            estimates,
-        );
-        let number = fits::call_fault(
-            sound,
-            self.n,
-            self.k,
-            self.phase,
-            &self.mark,
-            &self.label,
-            &self.held,
-            worker,
-        );
-        if number != 0 {
-            return refused(self, number);
-        }
-        if self.held[worker] != rule::NONE {
-            return refused(self, refusals::WRONG_HANDS);
-        }
-        let limited = dealing::decide_limited(
-            &self.mark,
-            &self.label,
-            &self.key,
-            estimates,
-            self.n,
-            self.excess,
-            self.goal,
-            self.pull,
-            limit,
-        );
-        match limited {
-            Limited::Cut => Counted {
+        let sound = self.is_sound(passages, estimates);
+        let (reply, comparisons) = self
+            .limited_checked(sound, passages, estimates, worker, limit)
+            .unwrap_or_else(refused);
+        Counted {
+            answer: Answer {
                 machine: self,
-                reply: Reply::Cut(limit as u32),
-                comparisons: limit,
+                reply,
             },
-            Limited::Decided(decision, made) => {
-                let answer = self.act(worker, decision);
-                let reply = answer.reply;
-                let machine = answer.machine;
-                Counted {
-                    machine: machine,
-                    reply: reply,
-                    comparisons: made,
-                }
-            }
+            comparisons,
         }
     }
 }

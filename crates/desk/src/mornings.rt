@@ -1,81 +1,66 @@
 // A whole morning in one call: a list of events, and a reply for each in a lent row.
-ghost use Rattle.std.specs.Prelude.{◌≡◌, map, ◌≤◌, length};
-ghost use Rattle.laws.specs.Part.{overlaid};
-ghost use Rattle.desk.specs.Reply.{code_of};
+ghost use Rattle.std.specs.Prelude.{◌≡◌};
+ghost use Rattle.desk.specs.Reply.{answer};
 ghost use Rattle.desk.specs.Fits.{is_sound};
-ghost use Rattle.desk.specs.Calls.{call, replies, after};
-ghost use Rattle.desk.specs.Morning.{event_of, events_of, events_right, morning_fault, morning_of};
+ghost use Rattle.desk.specs.Calls.{call};
+ghost use Rattle.desk.specs.Morning.{event_of, events_right, morning_fault, morning_of};
 
-use super::{Answer, Machine, Reply, coding, fits};
-use rule::refusals;
+use super::{Answer, CALL, Event, Machine, Reply};
+use rule::Refusal;
 
-// The call that an event asks for: Take where its number is below 65,536, else Bring. Conditions 1 to 4 and the keys were
-// looked at before, once for all events: `sound` says whether they hold.
-pub fn called(m: Machine, sound: bool, passages: &[u32], estimates: &[u32], event: u32) -> Answer
-    requires { sound ≡ is_sound m passages.now estimates.now }
-    ensures { result ≡ call passages.now estimates.now m (event_of event) }
-{
-    let worker = (event % 65536) as usize;
-    if event / 65536 == 0 {
-        return m.take_checked(sound, passages, estimates, worker);
-    }
-    m.bring_checked(sound, passages, estimates, worker)
-}
-
-// Whether each number is a Take or a Bring.
-#[tactic(auto, using(laws::specs::All::all_zero, laws::specs::All::all_more, laws::specs::All::all_end), unfolding(crate::specs::Morning::events_right))]
+// Each number is a Take or a Bring.
 pub fn are_events(events: &[u32]) -> bool
     ensures { result ≡ events_right events.now }
 {
-    for k in 0..events.len() {
-        if events[k] / 65536 > 1 {
-            return false;
-        }
-    }
-    true
+    events.iter().all(|event| event / CALL <= 1)
 }
 
-// The number of the first of 16 and 18 that applies, or 0.
+// The first of 16 and 18 that applies.
 #[tactic(auto, unfolding(crate::specs::Morning::morning_fault))]
-pub fn morning_fault(events: &[u32], places: usize) -> u8
+pub fn morning_fault(events: &[u32], places: usize) -> Result<(), Refusal>
     ensures { result ≡ morning_fault events.now places }
 {
     if places < events.len() {
-        return refusals::SHORT_ROW;
+        return Err(Refusal::ShortRow);
     }
     if !are_events(events) {
-        return refusals::NO_EVENT;
+        return Err(Refusal::NoEvent);
     }
-    0
+    Ok(())
 }
 
-// All calls in their order, each on the machine last handed back; their replies go to the front of the row.
-pub fn serve(
-    machine: Machine,
+// The call that an event asks for. Conditions 1 to 4 and the keys were looked at before, once for all events: `sound` says whether
+// they hold.
+pub fn called(
+    mut m: Machine,
     sound: bool,
     passages: &[u32],
     estimates: &[u32],
-    events: &[u32],
-    row: &mut [u64],
-) -> Machine
-    requires { (sound ≡ is_sound machine passages.now estimates.now) × (length events.now ≤ length row.old) }
-    ensures value { result ≡ after passages.now estimates.now machine (events_of events.now) }
-    ensures row_after { row.new ≡ overlaid 0 (map code_of (replies passages.now estimates.now machine (events_of events.now))) row.old }
+    event: u32,
+) -> Answer
+    requires { sound ≡ is_sound m passages.now estimates.now }
+    ensures { result ≡ call passages.now estimates.now m (event_of event) }
 {
-    let mut m = machine;
-    for i in 0..events.len() {
-        let answer = called(m, sound, passages, estimates, events[i]);
-        let reply = answer.reply;
-        m = answer.machine;
-        row[i] = coding::code(reply);
-    }
-    m
+    let reply = m.call(sound, passages, estimates, Event::from(event));
+    Answer { machine: m, reply }
 }
 
 impl Machine {
+    // The same, where the machine stands.
+    pub fn call(&mut self, sound: bool, passages: &[u32], estimates: &[u32], event: Event) -> Reply
+        requires { sound ≡ is_sound self.old passages.now estimates.now }
+        ensures { answer self.new result ≡ call passages.now estimates.now self.old event }
+    {
+        let outcome = match event {
+            Event::Take(worker) => self.take_checked(sound, passages, estimates, worker),
+            Event::Bring(worker) => self.bring_checked(sound, passages, estimates, worker),
+        };
+        outcome.unwrap_or_else(Reply::Refused)
+    }
+
     #[tactic(auto, using(crate::specs::CallLaws::morning_room), unfolding(crate::specs::Morning::morning_of))]
     pub fn morning(
-        self,
+        mut self,
         passages: &[u32],
         estimates: &[u32],
         events: &[u32],
@@ -84,26 +69,21 @@ impl Machine {
         ensures value { result ≡ (morning_of self passages.now estimates.now events.now row.old).given }
         ensures row_after { row.new ≡ (morning_of self passages.now estimates.now events.now row.old).row }
     {
-        let number = morning_fault(events, row.len());
-        if number != 0 {
-            return fits::refused(self, number);
+        if let Err(refusal) = morning_fault(events, row.len()) {
+            return Answer {
+                machine: self,
+                reply: Reply::Refused(refusal),
+            };
         }
-        let sound = fits::sound(
-            self.n,
-            self.k,
-            self.start,
-            self.goal,
-            self.pull,
-            self.excess,
-            &self.mark,
-            &self.label,
-            &self.key,
-            passages,
-            estimates,
-        );
-        let last = serve(self, sound, passages, estimates, events, row);
+        let sound = self.is_sound(passages, estimates);
+        // Each call on the machine that the last one left. A place is written by its number: of places that are lent one by one
+        // beside the events, a proof would know nothing after the loop.
+        for (i, &event) in events.iter().enumerate() {
+            let reply = self.call(sound, passages, estimates, Event::from(event));
+            row[i] = u64::from(reply);
+        }
         Answer {
-            machine: last,
+            machine: self,
             reply: Reply::Done,
         }
     }

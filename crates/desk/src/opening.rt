@@ -3,35 +3,32 @@ ghost use Rattle.std.specs.Prelude.{◌≡◌};
 ghost use Rattle.checks.specs.Opening.{task};
 ghost use Rattle.desk.specs.Opening.{opening_of, blank_machine};
 
-use super::{Answer, Machine, Reply, fits};
-
-// A machine whose numbers are all 0: what a refused opening hands back.
-#[tactic(auto, unfolding(crate::specs::Opening::blank_machine))]
-pub fn blank() -> Machine
-    ensures { result ≡ blank_machine }
-{
-    let mark = [0u8; 256];
-    let label = [0u32; 256];
-    let via = [0u16; 256];
-    let held = [0u16; 32];
-    let key = [0u64; 256];
-    Machine {
-        n: 0,
-        k: 0,
-        start: 0,
-        goal: 0,
-        pull: 0,
-        excess: 0,
-        phase: 0,
-        mark: mark,
-        label: label,
-        via: via,
-        held: held,
-        key: key,
-    }
-}
+use super::{Answer, Machine, Reply, SEARCHING};
+use checks::Task;
+use rule::Table;
 
 impl Machine {
+    // A machine whose numbers are all 0: what a refused opening hands back.
+    #[tactic(auto, unfolding(crate::specs::Opening::blank_machine))]
+    pub fn blank() -> Machine
+        ensures { result ≡ blank_machine }
+    {
+        Machine {
+            n: 0,
+            k: 0,
+            start: 0,
+            goal: 0,
+            pull: 0,
+            excess: 0,
+            phase: 0,
+            mark: [0; 256],
+            label: [0; 256],
+            via: [0; 256],
+            held: [0; 32],
+            key: [0; 256],
+        }
+    }
+
     #[tactic(auto, unfolding(crate::specs::Opening::opening_of, crate::specs::Opening::opened_machine))]
     pub fn opening(
         n: usize,
@@ -45,32 +42,41 @@ impl Machine {
     ) -> Answer
         ensures { result ≡ opening_of (task n k start goal pull excess passages.now estimates.now) }
     {
-        let number = checks::fault(n, k, start, goal, pull, excess, passages, estimates);
-        if number != 0 {
-            return fits::refused(blank(), number);
+        let task = Task {
+            n,
+            k,
+            start,
+            goal,
+            pull,
+            excess,
+            passages,
+            estimates,
+        };
+        if let Err(refusal) = task.fault() {
+            return Answer {
+                machine: Machine::blank(),
+                reply: Reply::Refused(refusal),
+            };
         }
-        let mut mark = [rule::UNSEEN; 256];
-        mark[start] = rule::OPEN;
-        let label = [0u32; 256];
-        let via = [rule::NONE; 256];
-        let held = [rule::NONE; 32];
-        let mut key = [0u64; 256];
-        key[start] = rule::key(0, pull, rule::estimate(estimates, n, start, goal));
+        let mut machine = Machine {
+            n,
+            k,
+            start,
+            goal,
+            pull,
+            excess,
+            phase: SEARCHING,
+            mark: [rule::UNSEEN; 256],
+            label: [0; 256],
+            via: [rule::NONE; 256],
+            held: [rule::NONE; 32],
+            key: [0; 256],
+        };
+        let table = Table { n, estimates };
+        machine.mark[start] = rule::OPEN;
+        machine.key[start] = rule::key(0, pull, table.between(start, goal));
         Answer {
-            machine: Machine {
-                n: n,
-                k: k,
-                start: start,
-                goal: goal,
-                pull: pull,
-                excess: excess,
-                phase: 0,
-                mark: mark,
-                label: label,
-                via: via,
-                held: held,
-                key: key,
-            },
+            machine,
             reply: Reply::Opened,
         }
     }

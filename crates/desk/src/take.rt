@@ -1,91 +1,96 @@
 // Take: a worker asks for a state.
-ghost use Rattle.std.specs.Prelude.{◌≡◌};
+ghost use Rattle.std.specs.Prelude.{◌≡◌, ◌<◌};
+ghost use Rattle.rule.specs.Laws.{WholeTable};
+ghost use Rattle.dealing.specs.Laws.{Keyed};
+ghost use Rattle.dealing.specs.Decision.{decision};
+ghost use Rattle.desk.specs.Machine.{hands_of, board_of};
 ghost use Rattle.desk.specs.Fits.{is_sound};
-ghost use Rattle.desk.specs.Take.{take_of};
+ghost use Rattle.desk.specs.Take.{act, take_of};
+ghost use Rattle.desk.specs.Laws.{Placed};
+ghost use Rattle.desk.specs.StepLaws.{Leaves};
 
-use super::{Answer, Machine, Reply, fits};
-use dealing::Decision;
-use rule::refusals;
+use super::{Answer, FOUND, Machine, NO_PATH, Reply};
+use dealing::{Board, Decision, Ranked};
+use rule::{Refusal, Table};
 
 impl Machine {
-    // Take, where conditions 1 to 4 and the keys were looked at before: `sound` says whether they hold.
-    // The machine is written where it stands, and handed back once: a function of its own for a step would copy it in and out.
-    pub fn take_checked(
-        mut self,
-        sound: bool,
-        passages: &[u32],
-        estimates: &[u32],
-        worker: usize,
-    ) -> Answer
-        requires { sound ≡ is_sound self passages.now estimates.now }
-        ensures { result ≡ take_of self passages.now estimates.now worker }
+    // What each step does to the machine, which is written where it stands, and what is replied.
+    pub fn act(&mut self, worker: usize, decision: Decision) -> Result<Reply, Refusal>
+        requires { Placed decision × (worker < 32) }
+        ensures { Leaves result self.new (act self.old (hands_of self.old) worker decision) }
     {
-        let number = fits::call_fault(
-            sound,
-            self.n,
-            self.k,
-            self.phase,
-            &self.mark,
-            &self.label,
-            &self.held,
-            worker,
-        );
-        if number != 0 {
-            return fits::refused(self, number);
-        }
-        if self.held[worker] != rule::NONE {
-            return fits::refused(self, refusals::WRONG_HANDS);
-        }
-        let decision = dealing::decide(
-            &self.mark,
-            &self.label,
-            &self.key,
-            estimates,
-            self.n,
-            self.excess,
-            self.goal,
-            self.pull,
-        );
-        let reply = match decision {
+        match decision {
             Decision::Found(cost) => {
-                self.phase = 1;
-                Reply::Found(cost)
+                self.phase = FOUND;
+                Ok(Reply::Found(cost))
             }
             Decision::NoPath => {
-                self.phase = 2;
-                Reply::NoPath
+                self.phase = NO_PATH;
+                Ok(Reply::NoPath)
             }
             Decision::Deal(s) => {
                 let number = s as u16;
                 self.mark[s] = rule::OUT;
                 self.held[worker] = number;
-                Reply::Took(number)
+                Ok(Reply::Took(number))
             }
-            Decision::Stuck => Reply::Refused(refusals::NOTHING_OUT),
-            Decision::Wait(s) => Reply::Wait(s as u16),
-        };
-        Answer {
-            machine: self,
-            reply: reply,
+            Decision::Stuck => Err(Refusal::NothingOut),
+            Decision::Wait(s) => Ok(Reply::Wait(s as u16)),
         }
     }
 
-    pub fn take(self, passages: &[u32], estimates: &[u32], worker: usize) -> Answer
+    // Which of its steps a Take comes to.
+    pub fn decide<'a>(&'a self, estimates: &'a [u32]) -> Decision
+        requires { Keyed self.now.goal self.now.pull (board_of self.now estimates.now) self.now.key × WholeTable estimates.now self.now.n × (self.now.goal < self.now.n) }
+        ensures { result ≡ decision self.now.goal self.now.pull (board_of self.now estimates.now) }
+    {
+        let table = Table {
+            n: self.n,
+            estimates,
+        };
+        let board = Board {
+            table,
+            excess: self.excess,
+            mark: &self.mark,
+            label: &self.label,
+        };
+        let ranked = Ranked {
+            board,
+            goal: self.goal,
+            pull: self.pull,
+            key: &self.key,
+        };
+        ranked.decide()
+    }
+
+    // Take, where conditions 1 to 4 and the keys were looked at before: `sound` says whether they hold.
+    pub fn take_checked(
+        &mut self,
+        sound: bool,
+        passages: &[u32],
+        estimates: &[u32],
+        worker: usize,
+    ) -> Result<Reply, Refusal>
+        requires { sound ≡ is_sound self.old passages.now estimates.now }
+        ensures { Leaves result self.new (take_of self.old passages.now estimates.now worker) }
+    {
+        if self.hands(sound, worker)?.is_some() {
+            return Err(Refusal::WrongHands);
+        }
+        let decision = self.decide(estimates);
+        self.act(worker, decision)
+    }
+
+    pub fn take(mut self, passages: &[u32], estimates: &[u32], worker: usize) -> Answer
         ensures { result ≡ take_of self passages.now estimates.now worker }
     {
-        let sound = fits::sound(
-            self.n,
-            self.k,
-            self.start,
-            self.goal,
-            self.pull,
-            self.excess,
-            &self.mark,
-            &self.label,
-            &self.key,
-            passages,
-            estimates,
-        );
-        self.take_checked(sound, passages, estimates, worker)
+        let sound = self.is_sound(passages, estimates);
+        let reply = self
+            .take_checked(sound, passages, estimates, worker)
+            .unwrap_or_else(Reply::Refused);
+        Answer {
+            machine: self,
+            reply,
+        }
     }
 }

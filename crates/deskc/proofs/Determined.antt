@@ -9,6 +9,7 @@ use contract.Lifetimes.{Lfts}
 use denote.Ref.{Bor}
 use denote.MutBor.{MutBor}
 use denote.Triple.Entry.{Args}
+use denote.Param.{number}
 use Rattle.determined.specs.Fixes.{Fixes, Answers, nothing_said, result_said, same}
 use Rattle.deskc.specs.contracts as c
 use Rattle.deskc.proofs as f
@@ -54,56 +55,21 @@ desk_file_write = (λ κs a. tt, λ κs a x y p q i. (same p.0 q.0 i, (tt, (tt, 
 pub unfit : Answers c.row.unfit.ended f.row.unfit.Reads.Asked f.row.unfit.Reads.Learnt
 unfit = (λ κs a. tt, λ κs a x y p q i. (same p q i, x.1))
 
-pub at_most : Fixes c.row.at_most.ended f.row.at_most.Reads.Learnt
-at_most κs a x y p q i = (same p q i, x.1)
+pub at_most : Answers c.row.at_most.ended f.row.at_most.Reads.Asked f.row.at_most.Reads.Learnt
+at_most = (λ κs a. tt, λ κs a x y p q i. (same p q i, x.1))
 
 pub is_row : Answers c.row.is_row.ended f.row.is_row.Reads.Asked f.row.is_row.Reads.Learnt
 is_row = (λ κs a. tt, λ κs a x y p q i. (same p q i, x.1))
 
-pub marks : Fixes c.row.marks.ended f.row.marks.Reads.Learnt
-marks κs a x y p q i = (same p q i, x.1)
-
-pub labels : Fixes c.row.labels.ended f.row.labels.Reads.Learnt
-labels κs a x y p q i = (same p q i, x.1)
-
-pub vias : Fixes c.row.vias.ended f.row.vias.Reads.Learnt
-vias κs a x y p q i = (same p q i, x.1)
-
-pub held_states : Fixes c.row.held_states.ended f.row.held_states.Reads.Learnt
-held_states κs a x y p q i = (same p q i, x.1)
-
-pub keys : Fixes c.row.keys.ended f.row.keys.Reads.Learnt
-keys κs a x y p q i = (same p q i, x.1)
+-- T is the numbers' type and n how many there are; the others are what Rattle knows of them, and of T's traits
+pub part : (T n l k o g d h e : _) → Fixes (c.row.part.ended T (number n) g d h e) (f.row.part.Reads.Learnt T n l k o g d h e)
+part T n l k o g d h e κs a x y p q i = (same p q i, x.1)
 
 pub unpack : Fixes c.row.unpack.ended f.row.unpack.Reads.Learnt
 unpack κs a x y p q i = (same p q i, x.1)
 
-pub put_marks : Fixes c.row.put_marks.ended f.row.put_marks.Reads.Learnt
-put_marks κs a x y p q i = (tt, (same p q i, (tt, tt)))
-
-pub wide8 : Answers c.row.wide8.ended f.row.wide8.Reads.Asked f.row.wide8.Reads.Learnt
-wide8 = (λ κs a. tt, λ κs a x y p q i. (same p q i, x.1))
-
-pub wide16 : Answers c.row.wide16.ended f.row.wide16.Reads.Asked f.row.wide16.Reads.Learnt
-wide16 = (λ κs a. tt, λ κs a x y p q i. (same p q i, x.1))
-
-pub put_labels : Fixes c.row.put_labels.ended f.row.put_labels.Reads.Learnt
-put_labels κs a x y p q i = (tt, (same p q i, (tt, tt)))
-
-pub put_vias : Fixes c.row.put_vias.ended f.row.put_vias.Reads.Learnt
-put_vias κs a x y p q i = (tt, (same p q i, (tt, tt)))
-
-pub put_held : Fixes c.row.put_held.ended f.row.put_held.Reads.Learnt
-put_held κs a x y p q i = (tt, (same p q i, (tt, tt)))
-
-pub low_half : Answers c.row.low_half.ended f.row.low_half.Reads.Asked f.row.low_half.Reads.Learnt
-low_half = (λ κs a. tt, λ κs a x y p q i. (same p q i, x.1))
-
-pub high_half : Answers c.row.high_half.ended f.row.high_half.Reads.Asked f.row.high_half.Reads.Learnt
-high_half = (λ κs a. tt, λ κs a x y p q i. (same p q i, x.1))
-
-pub put_keys : Fixes c.row.put_keys.ended f.row.put_keys.Reads.Learnt
-put_keys κs a x y p q i = (tt, (same p q i, (tt, tt)))
+pub put : (T n l k o g d h e : _) → Fixes (c.row.put.ended T (number n) g d h e) (f.row.put.Reads.Learnt T n l k o g d h e)
+put T n l k o g d h e κs a x y p q i = (tt, (same p q i, (tt, tt)))
 
 pub put_changing : Fixes c.row.put_changing.ended f.row.put_changing.Reads.Learnt
 put_changing κs a x y p q i = (tt, (same p q i, (tt, tt)))
@@ -113,6 +79,31 @@ put_taken κs a x y p q i = (tt, (same p q i, (tt, (tt, tt))))
 
 pub put_head : Fixes c.row.put_head.ended f.row.put_head.Reads.Learnt
 put_head κs a x y p q i = (tt, (same p q i, (tt, tt)))
+
+-- stored.rt
+pub u8_read : Fixes c.stored.U8Stored.read.ended f.stored.U8Stored.read.Reads.Learnt
+u8_read κs a x y p q i = (same p q i, x.1)
+
+pub u8_write : Fixes c.stored.U8Stored.write.ended f.stored.U8Stored.write.Reads.Learnt
+u8_write κs a x y p q i = (tt, (tt, (same p q i, tt)))
+
+pub u16_read : Fixes c.stored.U16Stored.read.ended f.stored.U16Stored.read.Reads.Learnt
+u16_read κs a x y p q i = (same p q i, x.1)
+
+pub u16_write : Fixes c.stored.U16Stored.write.ended f.stored.U16Stored.write.Reads.Learnt
+u16_write κs a x y p q i = (tt, (tt, (same p q i, tt)))
+
+pub u32_read : Fixes c.stored.U32Stored.read.ended f.stored.U32Stored.read.Reads.Learnt
+u32_read κs a x y p q i = (same p q i, x.1)
+
+pub u32_write : Fixes c.stored.U32Stored.write.ended f.stored.U32Stored.write.Reads.Learnt
+u32_write κs a x y p q i = (tt, (tt, (same p q i, tt)))
+
+pub u64_read : Fixes c.stored.U64Stored.read.ended f.stored.U64Stored.read.Reads.Learnt
+u64_read κs a x y p q i = (same p q i, x.1)
+
+pub u64_write : Fixes c.stored.U64Stored.write.ended f.stored.U64Stored.write.Reads.Learnt
+u64_write κs a x y p q i = (tt, (tt, (same p q i, tt)))
 
 -- weights.rt
 pub clamp : Answers c.weights.clamp.ended f.weights.clamp.Reads.Asked f.weights.clamp.Reads.Learnt
@@ -125,12 +116,15 @@ survey_code = (λ κs a. tt, λ κs a x y p q i. (same p q i, x.1))
 pub spot_code : Answers c.maps.spot_code.ended f.maps.spot_code.Reads.Asked f.maps.spot_code.Reads.Learnt
 spot_code = (λ κs a. tt, λ κs a x y p q i. (same p q i, x.1))
 
+pub state_code : Answers c.maps.state_code.ended f.maps.state_code.Reads.Asked f.maps.state_code.Reads.Learnt
+state_code = (λ κs a. tt, λ κs a x y p q i. (same p q i, x.1))
+
 -- files.rt
+pub fault_code : Fixes c.files.fault_code.ended f.files.fault_code.Reads.Learnt
+fault_code κs a x y p q i = (same p q i, x.1)
+
 pub read_code : Fixes c.files.read_code.ended f.files.read_code.Reads.Learnt
 read_code κs a x y p q i = (same p q i, x.1)
-
-pub short_row : Answers c.files.short_row.ended f.files.short_row.Reads.Asked f.files.short_row.Reads.Learnt
-short_row = (λ κs a. tt, λ κs a x y p q i. (same p q i, x.1))
 
 pub filed_code : Answers c.files.filed_code.ended f.files.filed_code.Reads.Asked f.files.filed_code.Reads.Learnt
 filed_code = (λ κs a. tt, λ κs a x y p q i. (same p q i, x.1))

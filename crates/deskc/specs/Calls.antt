@@ -1,7 +1,8 @@
 -- The calls over a row: what each returns as a number, and what the row then holds.
-use Rattle.std.specs.Prelude.{cond, List, ℕ, ◌+◌, ◌*◌, length, eqb}
+use Rattle.std.specs.Prelude.{List, ℕ, ◌+◌, ◌*◌, length, eqb, Result, Ok, Err}
 use Rattle.laws.specs.Truth.{provided}
-use Rattle.rule.specs.Refusals.{unfit}
+use Rattle.rule.specs.declared.refusals.Refusal.{Refusal}
+use Rattle.rule.specs.declared.refusals.Refusal.TheVariants.{Unfit}
 use Rattle.checks.specs.Opening.{Task}
 use Rattle.desk.specs.declared.Reply.TheVariants.{Refused}
 use Rattle.desk.specs.declared.Answer.{Answer}
@@ -22,7 +23,7 @@ pub record Turn : Type 0 where
 
 -- a row that holds no machine: refusal 8, and nothing is written
 abbrev pub unturned : List ℕ → Turn
-unturned row = record { code = code_of (Refused unfit); row = row }
+unturned row = record { code = code_of (Refused Unfit); row = row }
 
 abbrev pub turned : List ℕ → Answer → Turn
 turned row a = record { code = code_of a.reply; row = changed row a.machine }
@@ -41,7 +42,7 @@ take_row row passages estimates worker = turn_of row (take_of (unpacked row) pas
 
 -- a limited Take: "Its reply carries how many comparisons it made", times 2^40 above the reply's own number
 abbrev pub counting : List ℕ → Counted → Turn
-counting row c = record { code = c.comparisons * 1099511627776 + code_of c.reply; row = changed row c.machine }
+counting row c = record { code = c.comparisons * 1099511627776 + code_of c.answer.reply; row = changed row c.answer.machine }
 
 unfoldable pub take_limited_row : List ℕ → List ℕ → List ℕ → ℕ → ℕ → Turn
 take_limited_row row passages estimates worker limit = provided (is_row row) (unturned row) (counting row (limited_of (unpacked row) passages estimates worker limit))
@@ -59,7 +60,7 @@ lines r = record { code = code_of r.given.reply; buffer = r.buffer }
 
 unfoldable pub path_row : List ℕ → List ℕ → List ℕ → List ℕ → ℕ → Lines
 path_row row passages estimates buffer at =
-    provided (is_row row) (record { code = code_of (Refused unfit); buffer = buffer }) (lines (path_of (unpacked row) passages estimates buffer at))
+    provided (is_row row) (record { code = code_of (Refused Unfit); buffer = buffer }) (lines (path_of (unpacked row) passages estimates buffer at))
 
 -- a morning over a row: the reply's number, the machine's row, and the row of replies; "Refusals, before all others: 16 .., then 18"
 pub record Served : Type 0 where
@@ -67,14 +68,18 @@ pub record Served : Type 0 where
   pub row : List ℕ
   pub replies : List ℕ
 
-abbrev pub unserved : List ℕ → List ℕ → ℕ → Served
-unserved row replies number = record { code = code_of (Refused number); row = row; replies = replies }
+abbrev pub unserved : List ℕ → List ℕ → Refusal → Served
+unserved row replies refusal = record { code = code_of (Refused refusal); row = row; replies = replies }
 
 abbrev pub served : List ℕ → Morning → Served
 served row o = record { code = code_of o.given.reply; row = changed row o.given.machine; replies = o.row }
 
+-- refused, or what it comes to past these two
+abbrev pub past_fault : List ℕ → List ℕ → Result (Unit {0}) Refusal → Served → Served
+past_fault row replies (Ok u) then = then
+past_fault row replies (Err refusal) then = unserved row replies refusal
+
 unfoldable pub morning_row : List ℕ → List ℕ → List ℕ → List ℕ → List ℕ → Served
 morning_row row passages estimates events replies =
-    cond (eqb (morning_fault events (length replies)) 0)
-    (provided (is_row row) (unserved row replies unfit) (served row (morning_of (unpacked row) passages estimates events replies)))
-    (unserved row replies (morning_fault events (length replies)))
+    past_fault row replies (morning_fault events (length replies))
+    (provided (is_row row) (unserved row replies Unfit) (served row (morning_of (unpacked row) passages estimates events replies)))

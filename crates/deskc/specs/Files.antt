@@ -1,25 +1,27 @@
 -- Task files for C, order 6: what is read and what is written, as numbers and lent rows.
-use Rattle.std.specs.Prelude.{List, [], ◌∷◌, ℕ, ◌+◌, ◌*◌, length, leb}
+use Rattle.std.specs.Prelude.{List, [], ◌∷◌, ℕ, ◌+◌, ◌*◌, length, leb, Result, Ok, Err}
 use Rattle.laws.specs.Truth.{provided}
 use Rattle.laws.specs.Part.{overlaid}
 use Rattle.taskfile.specs.declared.Contents.{Contents}
-use Rattle.taskfile.specs.declared.Outcome.{Outcome}
-use Rattle.taskfile.specs.declared.Outcome.TheVariants.{Read, Fault}
 use Rattle.taskfile.specs.declared.Head.{Head}
-use Rattle.taskfile.specs.declared.Filed.{Filed}
-use Rattle.taskfile.specs.declared.Filed.TheVariants.{Written, Refused}
-use Rattle.taskfile.specs.Scan.{short_slice}
+use Rattle.taskfile.specs.declared.faults.Fault.{Fault}
+use Rattle.taskfile.specs.declared.faults.FaultKind.TheVariants.{ShortSlice}
+use Rattle.taskfile.specs.declared.faults.Unwritable.{Unwritable}
+use Rattle.taskfile.specs.Faults.{fault_number, unwritable_number}
 use Rattle.taskfile.specs.Contents.{read_of}
 
 -- 0 where the file was read; else the fault's number times 2^32, plus the offset
-abbrev pub read_code : Outcome → ℕ
-read_code (Read held) = 0
-read_code (Fault number offset) = number * 4294967296 + offset
+abbrev pub fault_code : Fault → ℕ
+fault_code fault = fault_number fault.kind * 4294967296 + fault.at
+
+abbrev pub read_code : Result Contents Fault → ℕ
+read_code (Ok held) = 0
+read_code (Err fault) = fault_code fault
 
 -- the file's length; or the refusal's number times 2^32
-abbrev pub filed_code : Filed → ℕ
-filed_code (Written many) = many
-filed_code (Refused number) = number * 4294967296
+abbrev pub filed_code : Result ℕ Unwritable → ℕ
+filed_code (Ok many) = many
+filed_code (Err refusal) = unwritable_number refusal * 4294967296
 
 -- the task's six numbers, as a file's head carries them
 abbrev pub head_of : ℕ → ℕ → ℕ → ℕ → ℕ → ℕ → Head
@@ -29,9 +31,9 @@ head_of n k start goal pull excess = record { n = n; k = k; start = start; goal 
 abbrev pub numbers_of : Contents → List ℕ
 numbers_of held = held.n ∷ held.k ∷ held.start ∷ held.goal ∷ held.pull ∷ held.excess ∷ held.passages ∷ held.calls ∷ []
 
-abbrev pub numbers_after : Outcome → List ℕ → List ℕ
-numbers_after (Read held) numbers = overlaid 0 (numbers_of held) numbers
-numbers_after (Fault number offset) numbers = numbers
+abbrev pub numbers_after : Result Contents Fault → List ℕ → List ℕ
+numbers_after (Ok held) numbers = overlaid 0 (numbers_of held) numbers
+numbers_after (Err fault) numbers = numbers
 
 -- what is returned, and what the four rows then hold
 pub record FileRow : Type 0 where
@@ -45,5 +47,5 @@ pub record FileRow : Type 0 where
 unfoldable pub file_row : List ℕ → List ℕ → List ℕ → List ℕ → List ℕ → FileRow
 file_row file numbers passages estimates events =
     let r = read_of file passages estimates events in
-    provided (leb 8 (length numbers)) (record { code = read_code (Fault short_slice 0); numbers = numbers; passages = passages; estimates = estimates; events = events })
+    provided (leb 8 (length numbers)) (record { code = fault_code (record { kind = ShortSlice; at = 0 }); numbers = numbers; passages = passages; estimates = estimates; events = events })
     (record { code = read_code r.outcome; numbers = numbers_after r.outcome numbers; passages = r.passages; estimates = r.estimates; events = r.calls })

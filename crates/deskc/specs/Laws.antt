@@ -1,21 +1,23 @@
 -- What the functions over rows rest on: lists by their places, what a row that holds a machine says, and machines written into rows.
-use Rattle.std.specs.Prelude.{◌≡◌, Bool, true, false, ◌&&◌, ℕ, zero, suc, ◌+◌, ◌*◌, ◌/◌, ◌%◌, ◌≤◌, ◌<◌, get_or, take, drop, replicate, leb, eqb}
+use Rattle.std.specs.Prelude.{◌≡◌, Bool, true, false, ◌&&◌, ℕ, zero, suc, ◌+◌, ◌-◌, ◌*◌, ◌/◌, ◌%◌, ◌≤◌, ◌<◌, get_or, take, drop, slice_range, replicate, leb, eqb, Result, Ok, Err}
 use Rattle.std.proofs.Math.Path.{refl, sym, ap, subst⁻¹}
-use Rattle.std.proofs.Common.{◌∙◌, zero-add, suc-add, add_assoc, arith, length-set, length-take, length-drop, take-append-drop, ext_get_or, get_or-take, get_or-drop, drop-drop, length-take-le, eqb-true, leb-true, le-leb}
+use Rattle.std.proofs.Common.{◌∙◌, zero-add, add-zero, suc-add, add_assoc, arith, length-set, length-take, length-drop, take-append-drop, ext_get_or, get_or-take, get_or-drop, drop-drop, length-take-le, eqb-true, leb-true, le-leb}
 use mathlib.Core.List.{List, [], ◌∷◌, ◌++◌, append_assoc}
 use Rattle.std.proofs.Math.Decide.{ℕ_discrete}
 use Rattle.std.proofs.Math.ListN.{length, set, length-append}
 use Rattle.std.proofs.lemmas.List.{set-get_or, set-append_left}
-use Rattle.laws.specs.Truth.{and_left, and_right, cond_either, provided}
-use Rattle.laws.specs.All.{all_at, all_of}
+use Rattle.laws.specs.Truth.{and_left, and_right, and_both, and_true, provided}
+use Rattle.std.specs.List.{list_all, flat_map}
+use Rattle.std.proofs.lemmas.List.Folds.{list_all-append}
 use Rattle.laws.specs.Part.{overlaid}
-use Rattle.laws.specs.Fill.{overlaid_whole, made, made_length, made_at, Filled, filled_more, filled_end, overlaid_one, overlaid_next}
+use Rattle.laws.specs.Fill.{overlaid_whole, made, made_length, made_at, overlaid_one, overlaid_next}
 use Rattle.rule.specs.Marks.{out}
-use Rattle.rule.specs.Refusals.{unfit}
+use Rattle.rule.specs.declared.refusals.Refusal.{Refusal}
+use Rattle.rule.specs.declared.refusals.Refusal.TheVariants.{BadSizes, BadEnds, BadWeights, Unfit}
 use Rattle.checks.specs.Opening.{Task, task, weights_right, holds1, holds2, holds3, fault}
 use Rattle.checks.specs.Laws.{right, fault_none}
 use Rattle.desk.specs.declared.Machine.{Machine}
-use Rattle.desk.specs.Opening.{opening_of, opened_machine, blank_machine}
+use Rattle.desk.specs.Opening.{opening_of, opened_machine, blank_machine, opened}
 use Rattle.desk.specs.declared.Reply.TheVariants.{Refused}
 use Rattle.desk.specs.declared.Answer.{Answer}
 use Rattle.desk.specs.declared.Counted.{Counted}
@@ -23,20 +25,14 @@ use Rattle.desk.specs.Reply.{code_of, refused}
 use Rattle.desk.specs.Machine.{with_phase, with_mark, with_hands, hands_of}
 use Rattle.desk.specs.Take.{dealt, take_of}
 use Rattle.desk.specs.Limited.{limited_of}
-use Rattle.desk.specs.Calls.{Event, call}
+use Rattle.desk.specs.declared.Event.{Event}
+use Rattle.desk.specs.Calls.{call}
 use Rattle.desk.specs.ToldLaws.{taken, take_told, limited_told, call_refused}
 use Rattle.desk.specs.Laws.{Sized}
 use Rattle.deskc.specs.Calls.{turn_of, take_row, take_limited_row}
 use Rattle.deskc.specs.Weights.{clamped}
-use Rattle.deskc.specs.Row.{at_most, is_row, part, key_from, unpacked, halves, changing, changed, packed}
-
--- a list made of another's places is that list
-pub made_places : {X : Type 0} (l : List X) (d : X) (n : ℕ) → length l ≡ n → made (λ i. get_or l i d) n ≡ l
-made_places l d n e = ext_get_or d (made (λ i. get_or l i d) n) l (made_length (λ i. get_or l i d) n ∙ sym e) (λ i h. made_at (λ i. get_or l i d) n i d (omega (arith, made_length (λ i. get_or l i d) n)))
-
--- a loop that wrote each place of a list wrote the list
-pub filled_list : {X : Type 0} (xs : List X) (d : X) (at n : ℕ) (l₀ l : List X) (i : ℕ) → Filled (λ i. get_or xs i d) at l₀ l i → length xs ≡ n → i ≤ n → n ≤ i → l ≡ overlaid at xs l₀
-filled_list {X} xs d at n l₀ l i w e a b = filled_end (λ i. get_or xs i d) at n l₀ l i w a b ∙ ap (λ (ys : List X). overlaid at ys l₀) (made_places xs d n e)
+use Rattle.deskc.specs.Row.{at_most, is_row, part, key_halves, key_at, key_from, unpacked, halves, changing, changed, packed}
+use Rattle.deskc.specs.StoredLaws.{one, InOne, There, InTwo, behind, tail}
 
 -- a list's own places, written where they stand, leave it as it was
 pub part_length : (l : List ℕ) (at n : ℕ) → length (part l at n) ≡ n
@@ -87,53 +83,106 @@ by_twos P even odd i = go (ℕ_discrete i (2 * (i / 2)))
     go (yes e) = subst⁻¹ P e (even (i / 2))
     go (no d) = subst⁻¹ P (omega arith) (odd (i / 2))
 
--- a loop that writes keys writes the two halves of one in a turn
-pub halves_more : (xs : List ℕ) (at : ℕ) (l₀ l : List ℕ) (s : ℕ) → Filled (λ i. get_or (halves xs) i 0) at l₀ l (2 * s) → at + 2 * s + 1 < length l₀
-    → (low high : ℕ) → low ≡ get_or xs s 0 % 4294967296 → high ≡ get_or xs s 0 / 4294967296 → Filled (λ i. get_or (halves xs) i 0) at l₀ (set (set l (at + 2 * s) low) (at + 2 * s + 1) high) (2 * (s + 1))
-halves_more xs at l₀ l s w h low high p q =
-    let f : ℕ → ℕ = λ i. get_or (halves xs) i 0 in
-    let one = filled_more f at l₀ l (2 * s) w (omega arith) low (p ∙ sym (halves_low xs s)) in
-    let two = filled_more f at l₀ _ (2 * s + 1) one (omega arith) high (q ∙ sym (halves_high xs s)) in
-    let place : at + (2 * s + 1) ≡ at + 2 * s + 1 = omega arith in
-    let next : 2 * s + 1 + 1 ≡ 2 * (s + 1) = omega arith in
-    rw (place, next) at two
+-- what a test says of a list that it says of each element, and of one element more
+all_listed : {X : Type 0} (p : X → Bool) (xs : List X) → list_all p xs ≡ true → (i : ℕ) (d : X) → i < length xs → p (get_or xs i d) ≡ true
+all_listed p [] e i d l = absurd (omega arith)
+all_listed p (x ∷ xs) e zero d l = and_left (p x) _ e
+all_listed p (x ∷ xs) e (suc i) d l = all_listed p xs (and_right (p x) _ e) i d (omega arith)
+
+listed_all : {X : Type 0} (p : X → Bool) (xs : List X) (d : X) → ((i : ℕ) → i < length xs → p (get_or xs i d) ≡ true) → list_all p xs ≡ true
+listed_all p [] d e = refl
+listed_all p (x ∷ xs) d e = and_both (e 0 (omega arith)) (listed_all p xs d (λ i l. e (suc i) (omega arith)))
+
+pub all_and_last : {X : Type 0} (p : X → Bool) (xs : List X) (x : X) (a b : Bool) → a ≡ list_all p xs → b ≡ (a && p x) → b ≡ list_all p (xs ++ (x ∷ []))
+all_and_last p xs x a b e q = q ∙ rw (e, list_all-append, and_true) refl
+
+-- place k of what stands behind others
+behind_length : (row : List ℕ) (from k : ℕ) → length (drop k (behind from row)) ≡ length row - (from + k)
+behind_length row from k = rw tail (simp (length-drop) (omega arith))
+
+behind_at : (row : List ℕ) (from k i : ℕ) → get_or (drop k (behind from row)) i 0 ≡ get_or row (from + k + i) 0
+behind_at row from k i = rw (tail, drop-drop k from row) (get_or-drop (from + k) row i 0)
+
+-- numbers of one place each, and keys, read one after the other
+pub part_single : (row : List ℕ) (from count : ℕ) → made (λ i. get_or (drop (1 * i) (behind from row)) 0 0) count ≡ part row from count
+unfolding part
+part_single row from count =
+    let q : (i : ℕ) → get_or (drop (1 * i) (behind from row)) 0 0 ≡ get_or row (from + i) 0 = λ i. behind_at row from (1 * i) 0 ∙ ap (λ k. get_or row k 0) (omega arith) in
+    λ j. made (λ i. q i j) count
+
+part_keys : (row : List ℕ) → made (λ i. key_at (drop (2 * i) (behind 807 row)) 0) 256 ≡ made (key_from row) 256
+part_keys row =
+    let q : (i : ℕ) → key_at (drop (2 * i) (behind 807 row)) 0 ≡ key_from row i =
+    λ i. rw (behind_at row 807 (2 * i) 0, behind_at row 807 (2 * i) 1, add-zero (807 + 2 * i)) refl in
+    λ j. made (λ i. q i j) 256
+
+-- the machine that is read from a row part by part
+pub unpacked_parts : (row mark label via held key : List ℕ) → mark ≡ made (λ i. get_or (drop (1 * i) (behind 7 row)) 0 0) 256 → label ≡ made (λ i. get_or (drop (1 * i) (behind 263 row)) 0 0) 256
+    → via ≡ made (λ i. get_or (drop (1 * i) (behind 519 row)) 0 0) 256 → held ≡ made (λ i. get_or (drop (1 * i) (behind 775 row)) 0 0) 32 → key ≡ made (λ i. key_at (drop (2 * i) (behind 807 row)) 0) 256
+    → ◌≡◌ {A = Machine} (record { n = get_or row 0 0; k = get_or row 1 0; start = get_or row 2 0; goal = get_or row 3 0; pull = get_or row 4 0; excess = get_or row 5 0; phase = get_or row 6 0; mark = mark; label = label; via = via; held = held; key = key }) (unpacked row)
+unfolding unpacked
+unpacked_parts row mark label via held key e₁ e₂ e₃ e₄ e₅ =
+    rw (e₁, e₂, e₃, e₄, e₅, part_single row 7 256, part_single row 263 256, part_single row 519 256, part_single row 775 32, part_keys row) refl
+
+ones : (xs : List ℕ) → flat_map one xs ≡ xs
+ones [] = refl
+ones (x ∷ xs) = ap (λ (ys : List ℕ). x ∷ ys) (ones xs)
 
 -- what a row that holds a machine says of its places
 pub record Bounds (row : List ℕ) : Type 0 where
   pub long : length row ≡ 1319
-  pub weights : (i : ℕ) → i < 2 → get_or row (4 + i) 0 ≤ 65535
-  pub phase : (i : ℕ) → i < 1 → get_or row (6 + i) 0 ≤ 255
-  pub marks : (i : ℕ) → i < 256 → get_or row (7 + i) 0 ≤ 255
-  pub vias : (i : ℕ) → i < 256 → get_or row (519 + i) 0 ≤ 65535
-  pub workers : (i : ℕ) → i < 32 → get_or row (775 + i) 0 ≤ 65535
+  pub pull : get_or row 4 0 ≤ 65535
+  pub excess : get_or row 5 0 ≤ 65535
+  pub phase : get_or row 6 0 ≤ 255
+  pub marks : (i : ℕ) → i < 256 → InOne 255 (drop (1 * i) (behind 7 row))
+  pub labels : (i : ℕ) → i < 256 → There (drop (1 * i) (behind 263 row))
+  pub vias : (i : ℕ) → i < 256 → InOne 65535 (drop (1 * i) (behind 519 row))
+  pub workers : (i : ℕ) → i < 32 → InOne 65535 (drop (1 * i) (behind 775 row))
+  pub keys : (i : ℕ) → i < 256 → InTwo (drop (2 * i) (behind 807 row))
   pub halves : (i : ℕ) → i < 512 → get_or row (807 + i) 0 ≤ 4294967295
 
-at_most_at : (row : List ℕ) (from count most : ℕ) → at_most row from count most ≡ true → (i : ℕ) → i < count → get_or row (from + i) 0 ≤ most
+at_most_at : (row : List ℕ) (from end most : ℕ) → at_most most (slice_range row from end) ≡ true → end ≤ length row → (i : ℕ) → i < end - from → get_or row (from + i) 0 ≤ most
 unfolding at_most
-at_most_at row from count most e i l = leb-true _ _ (all_at (λ i. leb (get_or row (from + i) 0) most) count i e l)
+at_most_at row from end most e r i l =
+    let q : get_or (slice_range row from end) i 0 ≡ get_or row (from + i) 0 = get_or-take (end - from) (drop from row) i 0 l ∙ get_or-drop from row i 0 in
+    let many : length (slice_range row from end) ≡ end - from = length-take-le (end - from) (drop from row) (omega (arith, length-drop from row)) in
+    rw q at (leb-true (get_or (slice_range row from end) i 0) most (all_listed (λ x. leb x most) (slice_range row from end) e i 0 (omega arith)))
+
+in_one : (row : List ℕ) (from end most : ℕ) → at_most most (slice_range row from end) ≡ true → end ≤ length row → (i : ℕ) → i < end - from → InOne most (drop (1 * i) (behind from row))
+in_one row from end most e r i l =
+    let q : from + 1 * i + 0 ≡ from + i = omega arith in
+    (omega (arith, behind_length row from (1 * i)), rw (behind_at row from (1 * i) 0, q) (at_most_at row from end most e r i l))
 
 pub row_bounds : (row : List ℕ) → is_row row ≡ true → Bounds row
 unfolding is_row
 row_bounds row e =
     let e₁ = and_right (eqb (length row) 1319) _ e in
-    let e₂ = and_right (at_most row 4 2 65535) _ e₁ in
-    let e₃ = and_right (at_most row 6 1 255) _ e₂ in
-    let e₄ = and_right (at_most row 7 256 255) _ e₃ in
-    let e₅ = and_right (at_most row 519 256 65535) _ e₄ in
+    let e₂ = and_right (at_most 65535 (slice_range row 4 6)) _ e₁ in
+    let e₃ = and_right (at_most 255 (slice_range row 6 7)) _ e₂ in
+    let e₄ = and_right (at_most 255 (slice_range row 7 263)) _ e₃ in
+    let e₅ = and_right (at_most 65535 (slice_range row 519 775)) _ e₄ in
+    let l : length row ≡ 1319 = eqb-true _ _ (and_left (eqb (length row) 1319) _ e) in
+    let weights = at_most_at row 4 6 65535 (and_left (at_most 65535 (slice_range row 4 6)) _ e₁) (omega arith) in
     record {
-      long = eqb-true _ _ (and_left (eqb (length row) 1319) _ e);
-      weights = at_most_at row 4 2 65535 (and_left (at_most row 4 2 65535) _ e₁);
-      phase = at_most_at row 6 1 255 (and_left (at_most row 6 1 255) _ e₂);
-      marks = at_most_at row 7 256 255 (and_left (at_most row 7 256 255) _ e₃);
-      vias = at_most_at row 519 256 65535 (and_left (at_most row 519 256 65535) _ e₄);
-      workers = at_most_at row 775 32 65535 (and_left (at_most row 775 32 65535) _ e₅);
-      halves = at_most_at row 807 512 4294967295 (and_right (at_most row 775 32 65535) _ e₅);
+      long = l;
+      pull = weights 0 (omega arith);
+      excess = weights 1 (omega arith);
+      phase = at_most_at row 6 7 255 (and_left (at_most 255 (slice_range row 6 7)) _ e₂) (omega arith) 0 (omega arith);
+      marks = in_one row 7 263 255 (and_left (at_most 255 (slice_range row 7 263)) _ e₃) (omega arith);
+      labels = λ i h. omega (arith, behind_length row 263 (1 * i));
+      vias = in_one row 519 775 65535 (and_left (at_most 65535 (slice_range row 519 775)) _ e₄) (omega arith);
+      workers = in_one row 775 807 65535 (and_left (at_most 65535 (slice_range row 775 807)) _ e₅) (omega arith);
+      keys = λ i h. omega (arith, behind_length row 807 (2 * i));
+      halves = at_most_at row 807 1319 4294967295 (and_right (at_most 65535 (slice_range row 775 807)) _ e₅) (omega arith);
     }
 
 -- and what need not be tested of a row whose numbers have 32 bits
-pub halves_fit : (row : List ℕ) → ((i : ℕ) → get_or row i 0 ≤ 4294967295) → at_most row 807 512 4294967295 ≡ true
+pub halves_fit : (row : List ℕ) → ((i : ℕ) → get_or row i 0 ≤ 4294967295) → at_most 4294967295 (slice_range row 807 1319) ≡ true
 unfolding at_most
-halves_fit row narrow = all_of (λ i. leb (get_or row (807 + i) 0) 4294967295) 512 (λ i l. le-leb _ _ (narrow (807 + i)))
+halves_fit row narrow =
+    listed_all (λ x. leb x 4294967295) (slice_range row 807 1319) 0 (λ i l.
+    let h : i < 512 = omega (arith, length-take 512 (drop 807 row)) in
+    rw (get_or-take 512 (drop 807 row) i 0 h, get_or-drop 807 row i 0) (le-leb _ _ (narrow (807 + i))))
 
 -- what a call can change, of a machine whose rows are as long as their types say
 pub changing_length : (m : Machine) → Sized m → length (changing m) ≡ 1313
@@ -144,18 +193,18 @@ changing_length m s = simp length-append (omega (arith, s.marks, s.labels, s.via
 in_a_row : (a b c d e : List ℕ) → (((a ++ b) ++ c) ++ d) ++ e ≡ a ++ (b ++ (c ++ (d ++ e)))
 in_a_row a b c d e = simp append_assoc
 
-pub changed_parts : (row : List ℕ) (m : Machine) → length row ≡ 1319 → Sized m → (r₁ r₂ r₃ r₄ r₅ r₆ : List ℕ) → r₁ ≡ set row 6 m.phase → r₂ ≡ overlaid 7 m.mark r₁ → r₃ ≡ overlaid 263 m.label r₂ → r₄ ≡ overlaid 519 m.via r₃ → r₅ ≡ overlaid 775 m.held r₄ → r₆ ≡ overlaid 807 (halves m.key) r₅ → r₆ ≡ changed row m
-unfolding changed changing
+pub changed_parts : (row : List ℕ) (m : Machine) → length row ≡ 1319 → Sized m → (r₁ r₂ r₃ r₄ r₅ r₆ : List ℕ) → r₁ ≡ set row 6 m.phase → r₂ ≡ overlaid 7 (flat_map one m.mark) r₁ → r₃ ≡ overlaid 263 (flat_map one m.label) r₂ → r₄ ≡ overlaid 519 (flat_map one m.via) r₃ → r₅ ≡ overlaid 775 (flat_map one m.held) r₄ → r₆ ≡ overlaid 807 (flat_map key_halves m.key) r₅ → r₆ ≡ changed row m
+unfolding changed changing halves
 changed_parts row m l s r₁ r₂ r₃ r₄ r₅ r₆ e₁ e₂ e₃ e₄ e₅ e₆ =
     let p₁ : r₁ ≡ overlaid 6 (m.phase ∷ []) row = e₁ ∙ overlaid_one 6 row m.phase (omega arith) in
     let p₂ : r₂ ≡ overlaid 6 ((m.phase ∷ []) ++ m.mark) row =
-    e₂ ∙ overlaid_next 6 7 row r₁ (m.phase ∷ []) m.mark p₁ (omega arith) (omega arith) in
+    (rw (ones m.mark) at e₂) ∙ overlaid_next 6 7 row r₁ (m.phase ∷ []) m.mark p₁ (omega arith) (omega arith) in
     let p₃ : r₃ ≡ overlaid 6 (((m.phase ∷ []) ++ m.mark) ++ m.label) row =
-    e₃ ∙ overlaid_next 6 263 row r₂ ((m.phase ∷ []) ++ m.mark) m.label p₂ (omega (arith, s.marks)) (omega arith) in
+    (rw (ones m.label) at e₃) ∙ overlaid_next 6 263 row r₂ ((m.phase ∷ []) ++ m.mark) m.label p₂ (omega (arith, s.marks)) (omega arith) in
     let p₄ : r₄ ≡ overlaid 6 ((((m.phase ∷ []) ++ m.mark) ++ m.label) ++ m.via) row =
-    e₄ ∙ overlaid_next 6 519 row r₃ (((m.phase ∷ []) ++ m.mark) ++ m.label) m.via p₃ (simp length-append (omega (arith, s.marks, s.labels))) (omega arith) in
+    (rw (ones m.via) at e₄) ∙ overlaid_next 6 519 row r₃ (((m.phase ∷ []) ++ m.mark) ++ m.label) m.via p₃ (simp length-append (omega (arith, s.marks, s.labels))) (omega arith) in
     let p₅ : r₅ ≡ overlaid 6 (((((m.phase ∷ []) ++ m.mark) ++ m.label) ++ m.via) ++ m.held) row =
-    e₅ ∙ overlaid_next 6 775 row r₄ ((((m.phase ∷ []) ++ m.mark) ++ m.label) ++ m.via) m.held p₄ (simp length-append (omega (arith, s.marks, s.labels, s.vias))) (omega arith) in
+    (rw (ones m.held) at e₅) ∙ overlaid_next 6 775 row r₄ ((((m.phase ∷ []) ++ m.mark) ++ m.label) ++ m.via) m.held p₄ (simp length-append (omega (arith, s.marks, s.labels, s.vias))) (omega arith) in
     let p₆ : r₆ ≡ overlaid 6 ((((((m.phase ∷ []) ++ m.mark) ++ m.label) ++ m.via) ++ m.held) ++ halves m.key) row =
     e₆ ∙ overlaid_next 6 807 row r₅ (((((m.phase ∷ []) ++ m.mark) ++ m.label) ++ m.via) ++ m.held) (halves m.key) p₅ (simp length-append (omega (arith, s.marks, s.labels, s.vias, s.workers))) (omega arith) in
     p₆ ∙ ap (λ (xs : List ℕ). overlaid 6 (m.phase ∷ xs) row) (in_a_row m.mark m.label m.via m.held (halves m.key))
@@ -170,21 +219,22 @@ packed_parts row r m l s e =
 -- a machine that opening hands back has numbers of 32 bits
 pub opened_small : (t : Task) → (((opening_of t).machine.n < 4294967296) × ((opening_of t).machine.k < 4294967296)) × (((opening_of t).machine.start < 4294967296) × ((opening_of t).machine.goal < 4294967296))
 unfolding opening_of opened_machine blank_machine
-opened_small t = go (eqb (fault t) 0) refl
+opened_small t = go (fault t) refl
   where
-    go : (b : Bool) → eqb (fault t) 0 ≡ b → (((opening_of t).machine.n < 4294967296) × ((opening_of t).machine.k < 4294967296)) × (((opening_of t).machine.start < 4294967296) × ((opening_of t).machine.goal < 4294967296))
-    go true e =
-        let r = right t (fault_none t (eqb-true _ _ e)) in
+    go : (f : Result (Unit {0}) Refusal) → fault t ≡ f → (((opening_of t).machine.n < 4294967296) × ((opening_of t).machine.k < 4294967296)) × (((opening_of t).machine.start < 4294967296) × ((opening_of t).machine.goal < 4294967296))
+    go (Ok u) e =
+        let r = right t (fault_none t e) in
         rw e ((omega (arith, r.states), omega (arith, r.workers)), (omega (arith, r.states, r.start_in), omega (arith, r.states, r.goal_in)))
-    go false e = rw e ((omega arith, omega arith), (omega arith, omega arith))
+    go (Err refusal) e = rw e ((omega arith, omega arith), (omega arith, omega arith))
 
 -- and rows as long as their types say
 pub opened_sized : (t : Task) → Sized (opening_of t).machine
 unfolding opening_of opened_machine blank_machine
-opened_sized t =
-    cond_either (λ (a : Answer). Sized a.machine) (eqb (fault t) 0) _ _
-    (record { marks = length-set {A = ℕ} (replicate 256 0) t.start _; labels = refl; vias = refl; workers = refl; keys = length-set {A = ℕ} (replicate 256 0) t.start _ })
-    (record { marks = refl; labels = refl; vias = refl; workers = refl; keys = refl })
+opened_sized t = go (fault t)
+  where
+    go : (f : Result (Unit {0}) Refusal) → Sized (opened t f).machine
+    go (Ok u) = record { marks = length-set {A = ℕ} (replicate 256 0) t.start _; labels = refl; vias = refl; workers = refl; keys = length-set {A = ℕ} (replicate 256 0) t.start _ }
+    go (Err refusal) = record { marks = refl; labels = refl; vias = refl; workers = refl; keys = refl }
 
 -- weights that pass check 3 are small
 weights_low : (pull excess : ℕ) → weights_right pull excess ≡ true → (pull ≤ 10000) × (excess ≤ 10000)
@@ -207,11 +257,11 @@ weights_clamped pull excess f = go (weights_right (clamped pull) (clamped excess
     go false e = e
 
 -- a task whose weights are out of range is refused for 1, 2 or 3
-weights_refused : (t : Task) → holds3 t ≡ false → opening_of t ≡ refused blank_machine (provided (holds1 t) 1 (provided (holds2 t) 2 3))
+weights_refused : (t : Task) → holds3 t ≡ false → opening_of t ≡ refused blank_machine (provided (holds1 t) BadSizes (provided (holds2 t) BadEnds BadWeights))
 unfolding opening_of fault
 weights_refused t e = go (holds1 t) (holds2 t) refl refl
   where
-    go : (a b : Bool) → holds1 t ≡ a → holds2 t ≡ b → opening_of t ≡ refused blank_machine (provided (holds1 t) 1 (provided (holds2 t) 2 3))
+    go : (a b : Bool) → holds1 t ≡ a → holds2 t ≡ b → opening_of t ≡ refused blank_machine (provided (holds1 t) BadSizes (provided (holds2 t) BadEnds BadWeights))
     go false b p q = rw p
     go true false p q = rw (p, q)
     go true true p q = rw (p, q, e)
@@ -271,7 +321,7 @@ changed_unpacked row e =
     (own_next 6 7 row (get_or row 6 0 ∷ []) (part row 7 256 ++ (part row 263 256 ++ (part row 519 256 ++ (part row 775 32 ++ part row 807 512)))) (sym (overlaid_one 6 row (get_or row 6 0) (omega arith)) ∙ set-get_or row 6 0) mark (omega arith) (omega arith))
 
 -- a worker's call over a row, by whether the row holds a machine
-pub turn_unfit : (row : List ℕ) (a : Answer) (code : ℕ) → is_row row ≡ false → code ≡ code_of (Refused unfit) → (code ≡ (turn_of row a).code) × (row ≡ (turn_of row a).row)
+pub turn_unfit : (row : List ℕ) (a : Answer) (code : ℕ) → is_row row ≡ false → code ≡ code_of (Refused Unfit) → (code ≡ (turn_of row a).code) × (row ≡ (turn_of row a).row)
 unfolding turn_of
 turn_unfit row a code e q = (rw e q, rw e refl)
 
@@ -339,21 +389,21 @@ module _ (row passages estimates : List ℕ) (e : is_row row ≡ true) (given : 
       → (code ≡ (take_row row passages estimates worker).code) × (next ≡ (take_row row passages estimates worker).row)
   turn_told worker next g n = turn_made row next given (take_of (unpacked row) passages estimates worker) code e g q (n ∙ ap (changed row) (sym (rw g (take_told (unpacked row) passages estimates worker))))
 
-  pub turn_refused : (v : Event) (number : ℕ) → given ≡ call passages estimates (unpacked row) v → given.reply ≡ Refused number
+  pub turn_refused : (v : Event) (refusal : Refusal) → given ≡ call passages estimates (unpacked row) v → given.reply ≡ Refused refusal
       → (code ≡ (turn_of row (call passages estimates (unpacked row) v)).code) × (row ≡ (turn_of row (call passages estimates (unpacked row) v)).row)
-  turn_refused v number g r =
-      let still : given.machine ≡ unpacked row = rw g (call_refused (unpacked row) passages estimates v number (rw g at r)) in
+  turn_refused v refusal g r =
+      let still : given.machine ≡ unpacked row = rw g (call_refused (unpacked row) passages estimates v refusal (rw g at r)) in
       turn_made row row given (call passages estimates (unpacked row) v) code e g q (sym (ap (changed row) still ∙ changed_unpacked row e))
 
 -- a limited Take over a row, by whether the row holds a machine
 module _ (row passages estimates : List ℕ) (worker limit code : ℕ) where
-  pub counting_unfit : is_row row ≡ false → code ≡ code_of (Refused unfit) → (code ≡ (take_limited_row row passages estimates worker limit).code) × (row ≡ (take_limited_row row passages estimates worker limit).row)
+  pub counting_unfit : is_row row ≡ false → code ≡ code_of (Refused Unfit) → (code ≡ (take_limited_row row passages estimates worker limit).code) × (row ≡ (take_limited_row row passages estimates worker limit).row)
   unfolding take_limited_row
   counting_unfit e q = (rw e q, rw e refl)
 
   pub counting_told : (next : List ℕ) (given : Counted) → is_row row ≡ true → given ≡ limited_of (unpacked row) passages estimates worker limit
-      → code ≡ given.comparisons * 1099511627776 + code_of given.reply → next ≡ changed row (taken (unpacked row) worker given.reply)
+      → code ≡ given.comparisons * 1099511627776 + code_of given.answer.reply → next ≡ changed row (taken (unpacked row) worker given.answer.reply)
       → (code ≡ (take_limited_row row passages estimates worker limit).code) × (next ≡ (take_limited_row row passages estimates worker limit).row)
   unfolding take_limited_row
   counting_told next given e g q n =
-      (rw (e, ← g) q, rw e (n ∙ ap (λ (c : Counted). changed row (taken (unpacked row) worker c.reply)) g ∙ ap (changed row) (sym (limited_told (unpacked row) passages estimates worker limit))))
+      (rw (e, ← g) q, rw e (n ∙ ap (λ (c : Counted). changed row (taken (unpacked row) worker c.answer.reply)) g ∙ ap (changed row) (sym (limited_told (unpacked row) passages estimates worker limit))))

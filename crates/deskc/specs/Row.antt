@@ -1,7 +1,7 @@
 -- A machine as a flat row of 1,319 numbers of 32 bits: n, k, start, goal, W, E, phase; 256 marks, 256 labels, 256 passage numbers; 32 held states; 256 keys of 64 bits, each as two
 -- numbers, its low half first.
-use Rattle.std.specs.Prelude.{Bool, ◌&&◌, List, [], ◌∷◌, ◌++◌, ℕ, ◌+◌, ◌*◌, ◌/◌, ◌%◌, length, get_or, leb, eqb}
-use Rattle.laws.specs.All.{all}
+use Rattle.std.specs.Prelude.{Bool, ◌&&◌, List, [], ◌∷◌, ◌++◌, ℕ, ◌+◌, ◌*◌, ◌/◌, ◌%◌, length, get_or, slice_range, flat_map, leb, eqb}
+use Rattle.std.specs.List.{list_all}
 use Rattle.laws.specs.Part.{overlaid}
 use Rattle.laws.specs.Fill.{made}
 use Rattle.desk.specs.declared.Machine.{Machine}
@@ -25,28 +25,35 @@ keys_at = 807
 abbrev pub row_length : ℕ
 row_length = 1319
 
--- the numbers from a place on are at most so large
-unfoldable pub at_most : List ℕ → ℕ → ℕ → ℕ → Bool
-at_most row from count most = all (λ i. leb (get_or row (from + i) 0) most) count
+-- no number of a part is larger
+unfoldable pub at_most : ℕ → List ℕ → Bool
+at_most most part = list_all (λ x. leb x most) part
 
 -- a row holds a machine: it has its length, and each number is small enough for its field; a half of a key has 32 bits, as each number of a lent row has
 unfoldable pub is_row : List ℕ → Bool
 is_row row =
     eqb (length row) row_length
-    && (at_most row 4 2 65535
-    && (at_most row 6 1 255
-    && (at_most row marks_at 256 255
-    && (at_most row vias_at 256 65535
-    && (at_most row held_at 32 65535
-    && at_most row keys_at 512 4294967295)))))
+    && (at_most 65535 (slice_range row 4 6)
+    && (at_most 255 (slice_range row 6 marks_at)
+    && (at_most 255 (slice_range row marks_at labels_at)
+    && (at_most 65535 (slice_range row vias_at held_at)
+    && (at_most 65535 (slice_range row held_at keys_at)
+    && at_most 4294967295 (slice_range row keys_at row_length))))))
 
 -- the part of a row from a place on
 unfoldable pub part : List ℕ → ℕ → ℕ → List ℕ
 part row from count = made (λ i. get_or row (from + i) 0) count
 
--- the key of s, from its two halves
+-- a key stands in two places, its low half first
+abbrev pub key_halves : ℕ → List ℕ
+key_halves key = key % 4294967296 ∷ (key / 4294967296 ∷ [])
+
+abbrev pub key_at : List ℕ → ℕ → ℕ
+key_at row at = get_or row at 0 + 4294967296 * get_or row (at + 1) 0
+
+-- the key of s
 abbrev pub key_from : List ℕ → ℕ → ℕ
-key_from row s = get_or row (keys_at + 2 * s) 0 + 4294967296 * get_or row (keys_at + 2 * s + 1) 0
+key_from row s = key_at row (keys_at + 2 * s)
 
 unfoldable pub unpacked : List ℕ → Machine
 unpacked row = record {
@@ -66,8 +73,7 @@ unpacked row = record {
 
 -- the halves of some keys, in a row
 unfoldable pub halves : List ℕ → List ℕ
-halves [] = []
-halves (x ∷ xs) = x % 4294967296 ∷ (x / 4294967296 ∷ halves xs)
+halves keys = flat_map key_halves keys
 
 -- the numbers of a machine that a call can change, and the row with them; its first six numbers are the task's, and stay
 unfoldable pub changing : Machine → List ℕ

@@ -7,17 +7,21 @@ ghost use Rattle.checks.specs.Opening.{task};
 ghost use Rattle.gridmap.specs.Reading.{read_map, spot_of, state_at_spot};
 ghost use Rattle.report.specs.Text.{report_length, report_buffer};
 ghost use Rattle.taskfile.specs.Writing.{write_of};
-ghost use Rattle.deskc.specs.Maps.{survey_code, spot_code};
+ghost use Rattle.deskc.specs.Maps.{survey_code, spot_code, state_code};
 ghost use Rattle.deskc.specs.Files.{filed_code, head_of, file_row};
 ghost use Rattle.deskc.specs.Calls.{open_row, take_row, take_limited_row, bring_row, morning_row, path_row};
 
 mod files;
 mod maps;
 mod row;
+mod stored;
 mod weights;
 
 use desk::{Machine, Reply};
-use taskfile::Head;
+use taskfile::{Fault, FaultKind, Head};
+
+// A comparison counts so much in the number that a limited Take returns: the reply's own number is smaller.
+const COMPARISON: u64 = 1_099_511_627_776;
 
 #[tactic(auto, using(crate::proofs::Rules::opens), unfolding(crate::specs::Calls::open_row))]
 #[unsafe(no_mangle)]
@@ -41,11 +45,9 @@ pub extern "C" fn desk_open(
     let w = weights::clamp(pull);
     let e = weights::clamp(excess);
     let answer = Machine::opening(n, k, start, goal, w, e, passages, estimates);
-    let reply = answer.reply;
-    let m = answer.machine;
-    row::put_head(machine, m);
-    row::put_changing(machine, m);
-    desk::code(reply)
+    row::put_head(machine, &answer.machine);
+    row::put_changing(machine, &answer.machine);
+    u64::from(answer.reply)
 }
 
 #[tactic(auto, using(desk::specs::ToldLaws::take_placed, crate::specs::Laws::turn_told), unfolding(crate::specs::Calls::turn_of))]
@@ -62,11 +64,9 @@ pub extern "C" fn desk_take(
     if !row::is_row(machine) {
         return row::unfit();
     }
-    let m = row::unpack(machine);
-    let answer = m.take(passages, estimates, worker);
-    let reply = answer.reply;
-    row::put_taken(machine, worker, reply);
-    desk::code(reply)
+    let answer = row::unpack(machine).take(passages, estimates, worker);
+    row::put_taken(machine, worker, answer.reply);
+    u64::from(answer.reply)
 }
 
 #[tactic(auto, using(crate::proofs::Rules::counts), unfolding(crate::specs::Calls::take_limited_row))]
@@ -84,12 +84,9 @@ pub extern "C" fn desk_take_limited(
     if !row::is_row(machine) {
         return row::unfit();
     }
-    let m = row::unpack(machine);
-    let counted = m.take_limited(passages, estimates, worker, limit);
-    let reply = counted.reply;
-    row::put_taken(machine, worker, reply);
-    let made = counted.comparisons as u64;
-    made * 1099511627776 + desk::code(reply)
+    let counted = row::unpack(machine).take_limited(passages, estimates, worker, limit);
+    row::put_taken(machine, worker, counted.answer.reply);
+    counted.comparisons as u64 * COMPARISON + u64::from(counted.answer.reply)
 }
 
 #[tactic(auto, using(crate::specs::Laws::row_bounds), unfolding(crate::specs::Calls::turn_of))]
@@ -106,15 +103,11 @@ pub extern "C" fn desk_bring(
     if !row::is_row(machine) {
         return row::unfit();
     }
-    let m = row::unpack(machine);
-    let answer = m.bring(passages, estimates, worker);
-    let reply = answer.reply;
-    if let Reply::Refused(_) = reply {
-        return desk::code(reply);
+    let answer = row::unpack(machine).bring(passages, estimates, worker);
+    if !matches!(answer.reply, Reply::Refused(_)) {
+        row::put_changing(machine, &answer.machine);
     }
-    let next = answer.machine;
-    row::put_changing(machine, next);
-    desk::code(reply)
+    u64::from(answer.reply)
 }
 
 #[tactic(auto, using(crate::specs::Laws::row_bounds), unfolding(crate::specs::Calls::morning_row))]
@@ -130,19 +123,15 @@ pub extern "C" fn desk_morning(
     ensures machine_after { machine.new ≡ (morning_row machine.old passages.now estimates.now events.now replies.old).row }
     ensures replies_after { replies.new ≡ (morning_row machine.old passages.now estimates.now events.now replies.old).replies }
 {
-    let number = desk::morning_fault(events, replies.len());
-    if number != 0 {
-        return desk::code(Reply::Refused(number));
+    if let Err(refusal) = desk::morning_fault(events, replies.len()) {
+        return u64::from(Reply::Refused(refusal));
     }
     if !row::is_row(machine) {
         return row::unfit();
     }
-    let m = row::unpack(machine);
-    let answer = m.morning(passages, estimates, events, replies);
-    let reply = answer.reply;
-    let next = answer.machine;
-    row::put_changing(machine, next);
-    desk::code(reply)
+    let answer = row::unpack(machine).morning(passages, estimates, events, replies);
+    row::put_changing(machine, &answer.machine);
+    u64::from(answer.reply)
 }
 
 #[tactic(auto, unfolding(crate::specs::Calls::path_row))]
@@ -160,10 +149,8 @@ pub extern "C" fn desk_path(
     if !row::is_row(machine) {
         return row::unfit();
     }
-    let m = row::unpack(machine);
-    let answer = m.path(passages, estimates, buffer, at);
-    let reply = answer.reply;
-    desk::code(reply)
+    let answer = row::unpack(machine).path(passages, estimates, buffer, at);
+    u64::from(answer.reply)
 }
 
 #[unsafe(no_mangle)]
@@ -180,24 +167,21 @@ pub extern "C" fn desk_map(text: &[u8], passages: &mut [u32], estimates: &mut [u
     ensures passages_after { passages.new ≡ (read_map text.now passages.old estimates.old).passages }
     ensures estimates_after { estimates.new ≡ (read_map text.now passages.old estimates.old).estimates }
 {
-    let survey = gridmap::read_map(text, passages, estimates);
-    maps::survey_code(survey)
+    maps::survey_code(gridmap::read_map(text, passages, estimates))
 }
 
 #[unsafe(no_mangle)]
 pub extern "C" fn desk_map_spot(text: &[u8], state: usize) -> u32
     ensures { result ≡ spot_code (spot_of text.now state) }
 {
-    let spot = gridmap::spot_of(text, state);
-    maps::spot_code(spot)
+    maps::spot_code(gridmap::spot_of(text, state))
 }
 
 #[unsafe(no_mangle)]
 pub extern "C" fn desk_map_state(text: &[u8], row: usize, column: usize) -> u32
-    ensures { result ≡ state_at_spot text.now row column }
+    ensures { result ≡ state_code (state_at_spot text.now row column) }
 {
-    let state = gridmap::state_at(text, row, column);
-    row::wide16(state)
+    maps::state_code(gridmap::state_at(text, row, column))
 }
 
 #[tactic(auto, using(taskfile::specs::Laws::read_small), unfolding(crate::specs::Files::file_row))]
@@ -215,8 +199,11 @@ pub extern "C" fn desk_file_read(
     ensures estimates_after { estimates.new ≡ (file_row file.now numbers.old passages.old estimates.old events.old).estimates }
     ensures events_after { events.new ≡ (file_row file.now numbers.old passages.old estimates.old events.old).events }
 {
-    if numbers.len() < 8 {
-        return files::short_row();
+    if numbers.len() < files::NUMBERS {
+        return files::fault_code(Fault {
+            kind: FaultKind::ShortSlice,
+            at: 0,
+        });
     }
     let outcome = taskfile::read(file, passages, estimates, events);
     files::put_numbers(numbers, outcome);
@@ -240,13 +227,12 @@ pub extern "C" fn desk_file_write(
     ensures buffer_after { buffer.new ≡ (write_of (head_of n k start goal pull excess) passages.now estimates.now events.now buffer.old).buffer }
 {
     let head = Head {
-        n: n,
-        k: k,
-        start: start,
-        goal: goal,
-        pull: pull,
-        excess: excess,
+        n,
+        k,
+        start,
+        goal,
+        pull,
+        excess,
     };
-    let filed = taskfile::write(head, passages, estimates, events, buffer);
-    files::filed_code(filed)
+    files::filed_code(taskfile::write(head, passages, estimates, events, buffer))
 }

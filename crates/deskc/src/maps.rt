@@ -1,25 +1,32 @@
-// What reading a map comes to, as numbers.
+// What reading a map comes to, as numbers. The types are the map reader's, and numbers are what C takes, so these are functions and no `From`.
 ghost use Rattle.std.specs.Prelude.{◌≡◌};
-ghost use Rattle.deskc.specs.Maps.{survey_code, spot_code};
+ghost use Rattle.deskc.specs.Maps.{survey_code, spot_code, state_code};
 
-use gridmap::{Spot, Survey};
+use gridmap::{MapFault, Spot, Survey};
 
 // Cells times 2^32, plus passages; or the refusal's number.
-pub fn survey_code(survey: Survey) -> u64
+pub fn survey_code(survey: Result<Survey, MapFault>) -> u64
     ensures { result ≡ survey_code survey }
 {
     match survey {
-        Survey::Drawn(cells, passages) => (cells as u64) * 4294967296 + (passages as u64),
-        Survey::Refused(number) => number as u64,
+        Ok(survey) => (u64::from(survey.cells) << 32) + u64::from(survey.passages),
+        Err(fault) => u64::from(u8::from(fault)),
     }
 }
 
 // Row times 65,536, plus column; 4,294,967,295 where there is none.
-pub fn spot_code(spot: Spot) -> u32
+pub fn spot_code(spot: Option<Spot>) -> u32
     ensures { result ≡ spot_code spot }
 {
     match spot {
-        Spot::At(row, column) => (row as u32) * 65536 + (column as u32),
-        Spot::Nowhere => 4294967295,
+        Some(spot) => u32::from(spot.row) * 65536 + u32::from(spot.column),
+        None => u32::MAX,
     }
+}
+
+// The state; 65,535 where there is none.
+pub fn state_code(state: Option<u16>) -> u32
+    ensures { result ≡ state_code state }
+{
+    u32::from(state.unwrap_or(u16::MAX))
 }

@@ -6,8 +6,5 @@ ghost use Rattle.deskc.specs.Weights.{clamped};
 pub fn clamp(weight: usize) -> u16
     ensures { result ≡ clamped weight }
 {
-    if weight > 65535 {
-        return 65535;
-    }
-    weight as u16
+    u16::try_from(weight).unwrap_or(u16::MAX)
 }

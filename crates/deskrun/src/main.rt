@@ -3,7 +3,7 @@
 #![tactic(auto)]
 
 fn main(rt: HostRuntime) {
-    let mut file = [0u8; 65537];
-    let mut text = [0u8; 589824];
+    let mut file = [0u8; filter::FILE_ROOM];
+    let mut text = [0u8; filter::TEXT_ROOM];
     filter::deskrun(&rt, &mut file, &mut text);
 }

@@ -6,20 +6,20 @@ ghost use Rattle.filter.specs.Run.{Answered, Ran};
 
 mod stream;
 
-// What reading to the end came to: how many bytes there were, or that it failed.
-#[derive(Clone, Copy)]
-pub enum Filled {
-    Whole(usize),
-    Failed,
-}
+use stream::{Unread, Unwritten};
 
-// What writing came to: all was taken, nobody reads any more, or it failed.
-#[derive(Clone, Copy)]
-pub enum Drained {
-    Whole,
-    Gone,
-    Failed,
-}
+// What a run ends with where the file's own status doesn't say it. The last is what a shell says of a program that a closed
+// pipe ended.
+const CANNOT_READ: u32 = 3;
+
+const CANNOT_WRITE: u32 = 4;
+
+const PIPE_CLOSED: u32 = 141;
+
+// Room for a file and one byte more, so that a longer one is seen to be too long, and for the longest text.
+pub const FILE_ROOM: usize = 65537;
+
+pub const TEXT_ROOM: usize = report::ROOM;
 
 // Reports on a file that was read, and writes the text to standard output. The status is the file's where all was written.
 #[tactic(auto, using(report::specs::SessionLaws::report_within))]
@@ -28,12 +28,10 @@ fn tell(rt: &HostRuntime, file: &[u8], text: &mut [u8]) -> u32
     ensures small { result < 256 }
 {
     let many = report::report(file, text);
-    let status = report::status_of(file);
-    let drained = stream::drain(rt, &text[..many]);
-    match drained {
-        Drained::Whole => status as u32,
-        Drained::Gone => 141,
-        Drained::Failed => 4,
+    match stream::drain(rt, &text[..many]) {
+        Ok(()) => u32::from(report::status_of(file)),
+        Err(Unwritten::Gone) => PIPE_CLOSED,
+        Err(Unwritten::Failed) => CANNOT_WRITE,
     }
 }
 
@@ -42,16 +40,14 @@ pub fn run(rt: &HostRuntime, file: &mut [u8], text: &mut [u8]) -> u32
     ensures ran { Ran result file.new text.old text.new }
     ensures small { result < 256 }
 {
-    let filled = stream::fill(rt, file);
-    match filled {
-        Filled::Whole(got) => tell(rt, &file[..got], text),
-        Filled::Failed => 3,
+    match stream::fill(rt, file) {
+        Ok(got) => tell(rt, &file[..got], text),
+        Err(Unread) => CANNOT_READ,
     }
 }
 
-// `deskrun`: room for a file and one byte more, so that a longer one is seen to be too long, and for the
-// longest text. The number that comes back is the exit status.
-pub fn deskrun(rt: &HostRuntime, file: &mut [u8; 65537], text: &mut [u8; 589824]) -> u32
+// `deskrun`: the same over buffers of the right sizes. The number that comes back is the exit status.
+pub fn deskrun(rt: &HostRuntime, file: &mut [u8; FILE_ROOM], text: &mut [u8; TEXT_ROOM]) -> u32
     ensures { Ran result file.new text.old text.new }
 {
     run(rt, file, text)

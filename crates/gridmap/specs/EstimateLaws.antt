@@ -1,7 +1,8 @@
 -- Distances: gaps and octile distances as sums of differences, the distances between places, and the estimates, which are the distances of the states' cells.
 use Rattle.std.specs.Prelude.{◌≡◌, List, [], ◌∷◌, ◌++◌, ℕ, zero, suc, ◌+◌, ◌*◌, ◌-◌, ◌/◌, ◌%◌, ◌≤◌, ◌<◌}
 use Rattle.std.proofs.Math.Path.{sym}
-use Rattle.std.proofs.Common.{ap, ◌∙◌, append-nil, append_assoc, add-zero, add-suc, zero-mul, mul-le-mul_right, ext_get_or}
+use borrow.Rule.Slice.PartMut.{put_mid}
+use Rattle.std.proofs.Common.{ap, ◌∙◌, drop-drop, append-nil, append_assoc, add-zero, add-suc, zero-mul, mul-le-mul_right, ext_get_or}
 use native.Mathlib.Omega.{arith}
 use Rattle.std.proofs.Math.ListN.{length}
 use Rattle.std.proofs.Math.Arith.{digits_lt, digits_div, digits_mod}
@@ -11,7 +12,9 @@ use Rattle.laws.specs.Fill.{made, made_length, made_at, overlaid_length, overlai
 use Rattle.rule.specs.Task.{estimate}
 use Rattle.gridmap.specs.Map.{Map, stride, cell_of, state_count}
 use Rattle.gridmap.specs.Estimates.{gap, octile, between, estimates_of}
-use Rattle.gridmap.specs.Laws.{Spots, apart, table_of}
+use Rattle.gridmap.specs.declared.Spot.{Spot}
+use Rattle.gridmap.specs.CellLaws.{spots_length, spot_is}
+use Rattle.gridmap.specs.Laws.{spots_of, spot_in, apart, apart_from, table_of}
 
 -- no `max`, no `min`
 pub gap_sum : (a b : ℕ) → gap a b ≡ (a - b) + (b - a)
@@ -62,21 +65,24 @@ module _ (m : Map) where
       made_at (λ i. between (stride m) (cell_of m (i / state_count m)) (cell_of m (i % state_count m))) (state_count m * state_count m) (a * state_count m + b) 0 (digits_lt h k)
       ∙ rw (digits_div a k, digits_mod a k)
 
-  -- those of the states' rows and columns, where two lists hold these
-  module _ (rows columns : List ℕ) (p : Spots m rows columns) where
-    apart_is : (a b : ℕ) → a < state_count m → b < state_count m → apart rows columns a b ≡ between (stride m) (cell_of m a) (cell_of m b)
-    unfolding between
-    apart_is a b h k = rw (p.row_is a h, p.row_is b k, p.column_is a h, p.column_is b k)
+  -- those between the spots of the cells
+  apart_is : (a b : ℕ) → a < state_count m → b < state_count m → apart (spot_in (spots_of m) a) (spot_in (spots_of m) b) ≡ between (stride m) (cell_of m a) (cell_of m b)
+  unfolding between
+  apart_is a b h k = rw (spot_is m a h, spot_is m b k)
 
-    pub table_is : table_of rows columns ≡ estimates_of m
-    unfolding table_of estimates_of
-    table_is =
-        rw p.high
-        (ext_get_or 0 _ _ (made_length _ (state_count m * state_count m) ∙ sym (made_length _ (state_count m * state_count m)))
-        (λ i l.
-        let k : i < state_count m * state_count m = omega (arith, made_length (λ i. apart rows columns (i / state_count m) (i % state_count m)) (state_count m * state_count m)) in
-        made_at _ (state_count m * state_count m) i 0 k ∙ apart_is (i / state_count m) (i % state_count m) (square_row (state_count m) i k) (square_column (state_count m) i k)
-        ∙ sym (made_at _ (state_count m * state_count m) i 0 k)))
+  pub table_is : table_of (spots_of m) ≡ estimates_of m
+  unfolding table_of estimates_of
+  table_is =
+      rw (spots_length m)
+      (ext_get_or 0 _ _ (made_length _ (state_count m * state_count m) ∙ sym (made_length _ (state_count m * state_count m)))
+      (λ i l.
+      let k : i < state_count m * state_count m = omega (arith, made_length (λ i. apart (spot_in (spots_of m) (i / state_count m)) (spot_in (spots_of m) (i % state_count m))) (state_count m * state_count m)) in
+      made_at _ (state_count m * state_count m) i 0 k ∙ apart_is (i / state_count m) (i % state_count m) (square_row (state_count m) i k) (square_column (state_count m) i k)
+      ∙ sym (made_at _ (state_count m * state_count m) i 0 k)))
+
+-- a buffer with a part that was lent and filled
+pub put_part : (at : ℕ) (l xs ys : List ℕ) → ys ≡ xs → (k : ℕ) → k ≡ length xs → put_mid at k l ys ≡ overlaid at xs l
+put_part at l xs ys e k q = rw (e, q, drop-drop (length xs) at l)
 
 -- a list by its elements in two parts, and a buffer that has the first at its front when the second is written behind it
 made_parts : (f g : ℕ → ℕ) (i n : ℕ) → ((j : ℕ) → j < n → g j ≡ f (i + j)) → made f i ++ made g n ≡ made f (i + n)
@@ -92,21 +98,28 @@ filled_part f g i n l₀ l k same room w e =
       long = ap length e ∙ overlaid_length i l (made g n) (omega (arith, made_length g n, w.long)) ∙ w.long;
     }
 
--- what a loop that writes them, those from one state after those from another, knows: the first i stand at the front of l, which was l₀
-abbrev pub Table : List ℕ → List ℕ → List ℕ → List ℕ → ℕ → Type 0
-Table rows columns l₀ l i = Filled (λ i. apart rows columns (i / length rows) (i % length rows)) 0 l₀ l i
+-- what a loop that writes them, those from one cell after those from another, knows: the first i stand at the front of l, which was l₀
+abbrev pub Table : List Spot → List ℕ → List ℕ → ℕ → Type 0
+Table spots l₀ l i = Filled (λ i. apart (spot_in spots (i / length spots)) (spot_in spots (i % length spots))) 0 l₀ l i
 
-module _ (rows columns l₀ l : List ℕ) where
-  pub table_zero : Table rows columns l₀ l₀ (0 * length rows)
+module _ (spots : List Spot) (l₀ l : List ℕ) where
+  pub table_zero : Table spots l₀ l₀ (0 * length spots)
   table_zero = rw zero-mul (filled_zero _ 0 l₀)
 
-  pub table_more : (a : ℕ) → a < length rows → length rows * length rows ≤ length l₀ → Table rows columns l₀ l (a * length rows)
-      → (k : List ℕ) → k ≡ overlaid (a * length rows) (made (apart rows columns a) (length rows)) l → Table rows columns l₀ k ((a + 1) * length rows)
-  table_more a h room w k e =
-      let n = length rows in
+  table_next : (a : ℕ) → a < length spots → length spots * length spots ≤ length l₀ → Table spots l₀ l (a * length spots)
+      → (k : List ℕ) → k ≡ overlaid (a * length spots) (made (apart_from (spot_in spots a) spots) (length spots)) l → Table spots l₀ k ((a + 1) * length spots)
+  table_next a h room w k e =
+      let n = length spots in
       let next : a * n + n ≡ (a + 1) * n = omega arith in
-      rw next at (filled_part _ (apart rows columns a) (a * n) n l₀ l k (λ j l. rw (digits_div a l, digits_mod a l)) (omega (arith, mul-le-mul_right n h)) w e)
+      rw next at (filled_part _ (apart_from (spot_in spots a) spots) (a * n) n l₀ l k (λ j l. rw (digits_div a l, digits_mod a l)) (omega (arith, mul-le-mul_right n h)) w e)
 
-  pub table_end : (a : ℕ) → a ≤ length rows → length rows ≤ a → Table rows columns l₀ l (a * length rows) → l ≡ overlaid 0 (table_of rows columns) l₀
+  pub table_more : (a : ℕ) → a < length spots → length spots * length spots ≤ length l₀ → Table spots l₀ l (a * length spots)
+      → (ys : List ℕ) → ys ≡ made (apart_from (spot_in spots a) spots) (length spots) → Table spots l₀ (put_mid (a * length spots) (a * length spots + length spots - a * length spots) l ys) ((a + 1) * length spots)
+  table_more a h room w ys e =
+      let n = length spots in
+      let long : a * n + n - a * n ≡ length (made (apart_from (spot_in spots a) spots) n) = omega (arith, made_length (apart_from (spot_in spots a) spots) n) in
+      table_next a h room w _ (put_part (a * n) l (made (apart_from (spot_in spots a) spots) n) ys e (a * n + n - a * n) long)
+
+  pub table_end : (a : ℕ) → a ≤ length spots → length spots ≤ a → Table spots l₀ l (a * length spots) → l ≡ overlaid 0 (table_of spots) l₀
   unfolding table_of
-  table_end a h k w = let q : a ≡ length rows = omega arith in rw q at w.done
+  table_end a h k w = let q : a ≡ length spots = omega arith in rw q at w.done

@@ -1,49 +1,65 @@
--- What the inner contracts cite: the map of a head that was read, how large a right head's numbers are, a row that is right, the states' rows and columns with the estimates between them, and lists that ascend.
-use Rattle.std.specs.Prelude.{◌≡◌, Bool, List, ℕ, ◌*◌, ◌/◌, ◌%◌, ◌≤◌, ◌<◌, length, get_or, eqb}
+-- What the inner contracts cite: the map of a grid, a word and a number that were read, a row that is right, the states' cells with the estimates between them, and a place with a state.
+use Rattle.std.specs.Prelude.{◌≡◌, Bool, true, ◌||◌, cond, List, [], ◌∷◌, ℕ, ◌+◌, ◌*◌, ◌/◌, ◌%◌, ◌<◌, length, get_or, ltb, Option, Some, None}
 use Rattle.laws.specs.All.{all}
 use Rattle.laws.specs.Fill.{made}
-use Rattle.gridmap.specs.declared.Head.{Head}
-use Rattle.gridmap.specs.Map.{Map, stride, place_right, cell_of, row_of, column_of, place_of, state_count}
+use Rattle.laws.specs.Gather.{gathered}
+use Rattle.gridmap.specs.declared.grid.Grid.{Grid}
+use Rattle.gridmap.specs.declared.Spot.{Spot}
+use Rattle.gridmap.specs.Text.{is_word, digits, size, is_size}
+use Rattle.gridmap.specs.Map.{Map, byte_at, is_open, is_closed, stride, places, place_right, open_at, cell_of, row_of, column_of, place_of, state_count}
 use Rattle.gridmap.specs.Estimates.{gap, octile}
 
 -- the map of a text with a head that was read
-abbrev pub map_with : List ℕ → Head → Map
-map_with text h = record { text = text; height = h.height; width = h.width; rows = h.rows }
+abbrev pub map_with : Grid → Map
+map_with g = record { text = g.text.now; height = g.height; width = g.width; rows = g.rows }
 
--- a head that is right announces no more than 256 rows and columns, and takes 37 bytes at most
-pub record Small (h : Head) : Type 0 where
-  pub high : h.height ≤ 256
-  pub wide : h.width ≤ 256
-  pub near : h.rows ≤ 37
+-- the place behind a word, where the word stands; and a number from 1 to 256 with the place behind it, where one stands
+abbrev pub word_read : List ℕ → ℕ → List ℕ → Option ℕ
+word_read text at word = cond (is_word text at word) (Some (at + length word)) None
 
--- 32 of one row: so many cells and a line feed
+abbrev pub size_read : List ℕ → ℕ → Option (ℕ × ℕ)
+size_read text at = cond (is_size text at) (Some (size text at, at + digits text at)) None
+
+-- 32 of one cell and of one row: so many cells and a line feed
+abbrev pub cell_right : Map → ℕ → Bool
+cell_right m p = is_open (byte_at m p) || is_closed (byte_at m p)
+
 unfoldable pub row_right : Map → ℕ → Bool
 row_right m row = all (λ column. place_right m (place_of m row column)) (stride m)
 
--- the rows and the columns of the states' cells
-unfoldable pub rows_of : Map → List ℕ
-rows_of m = made (λ s. row_of m (cell_of m s)) (state_count m)
+-- the place of a state's cell, if there is such a state
+abbrev pub cell_found : Map → ℕ → Option ℕ
+cell_found m s = cond (ltb s (state_count m)) (Some (cell_of m s)) None
 
-unfoldable pub columns_of : Map → List ℕ
-columns_of m = made (λ s. column_of m (cell_of m s)) (state_count m)
+-- the row and the column of a place
+abbrev pub spot_at : Map → ℕ → Spot
+spot_at m p = record { row = row_of m p; column = column_of m p }
 
--- two lists that hold them
-pub record Spots (m : Map) (rows columns : List ℕ) : Type 0 where
-  pub high : length rows ≡ state_count m
-  pub wide : length columns ≡ state_count m
-  pub row_is : (s : ℕ) → s < state_count m → get_or rows s 0 ≡ row_of m (cell_of m s)
-  pub column_is : (s : ℕ) → s < state_count m → get_or columns s 0 ≡ column_of m (cell_of m s)
+-- those of the open places, in their order: of the states' cells
+abbrev pub spot_piece : Map → ℕ → List Spot
+spot_piece m p = cond (open_at m p) (spot_at m p ∷ []) []
 
--- the estimates between states of these rows and columns, h(a,b) at a × n + b
-abbrev pub apart : List ℕ → List ℕ → ℕ → ℕ → ℕ
-apart rows columns a b = octile (gap (get_or rows a 0) (get_or rows b 0)) (gap (get_or columns a 0) (get_or columns b 0))
+unfoldable pub spots_of : Map → List Spot
+spots_of m = gathered (spot_piece m) (places m)
 
-unfoldable pub table_of : List ℕ → List ℕ → List ℕ
-table_of rows columns = made (λ i. apart rows columns (i / length rows) (i % length rows)) (length rows * length rows)
+abbrev pub origin : Spot
+origin = record { row = 0; column = 0 }
 
--- a list that never falls, and a place of it that holds a number
-abbrev pub Ascending : List ℕ → Type 0
-Ascending l = (i j : ℕ) → i ≤ j → j < length l → get_or l i 0 ≤ get_or l j 0
+abbrev pub spot_in : List Spot → ℕ → Spot
+spot_in spots s = get_or spots s origin
 
-abbrev pub holds : List ℕ → ℕ → ℕ → Bool
-holds l v i = eqb (get_or l i 0) v
+-- the estimate between two cells, and between these cells, h(a,b) at a × n + b
+abbrev pub apart : Spot → Spot → ℕ
+apart a b = octile (gap a.row b.row) (gap a.column b.column)
+
+abbrev pub apart_from : Spot → List Spot → ℕ → ℕ
+apart_from from spots b = apart from (spot_in spots b)
+
+unfoldable pub table_of : List Spot → List ℕ
+table_of spots = made (λ i. apart (spot_in spots (i / length spots)) (spot_in spots (i % length spots))) (length spots * length spots)
+
+-- a row and a column with a state: those of an open cell
+pub record OpenSpot (m : Map) (spot : Spot) : Type 0 where
+  pub row_on : spot.row < m.height
+  pub column_on : spot.column < stride m
+  pub cell : open_at m (place_of m spot.row spot.column) ≡ true

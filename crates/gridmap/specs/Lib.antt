@@ -1,9 +1,12 @@
 -- Order 3, "Students' own pipes from grid maps": the plain map text of the public octile grid benchmarks, read as a task's passages and estimates.
+pub mod Chains
 pub mod Text
 pub mod Map
 pub mod Passages
 pub mod Estimates
+pub mod Faults
 pub mod Reading
+pub mod Small
 pub mod Laws
 pub mod HeadLaws
 pub mod CellLaws

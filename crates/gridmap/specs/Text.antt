@@ -1,5 +1,5 @@
 -- The head of a map's text: "lines `type octile`, `height` and `width` each with one blank and a number from 1 to 256 without leading zeros, `map`, then rows; a line feed ends each line."
-use Rattle.std.specs.Prelude.{Bool, ◌&&◌, not, cond, List, ℕ, ◌+◌, ◌*◌, ◌-◌, length, get_or, leb, eqb}
+use Rattle.std.specs.Prelude.{Bool, ◌&&◌, not, cond, List, ℕ, ◌+◌, ◌*◌, ◌-◌, length, get_or, leb, eqb, Option, Some, None, is_none, unwrap_or}
 use Prim.Native.Char.{code}
 use Rattle.laws.specs.Fold.{fold}
 use Rattle.laws.specs.First.{first}
@@ -14,17 +14,17 @@ byte text i = get_or text i 0
 unfoldable pub is_word : List ℕ → ℕ → List ℕ → Bool
 is_word text at word = all (λ i. eqb (byte text (at + i)) (get_or word i 0)) (length word)
 
--- the digit at a place; 10 where none stands there
-unfoldable pub digit : List ℕ → ℕ → ℕ
-digit text i = cond (leb (code "0") (byte text i) && leb (byte text i) (code "9")) (byte text i - code "0") 10
+-- the digit at a place, if one stands there
+unfoldable pub digit : List ℕ → ℕ → Option ℕ
+digit text i = cond (leb (code "0") (byte text i) && leb (byte text i) (code "9")) (Some (byte text i - code "0")) None
 
 -- how many digits stand from a place on, three at most
 unfoldable pub digits : List ℕ → ℕ → ℕ
-digits text at = first (λ i. eqb (digit text (at + i)) 10) 3
+digits text at = first (λ i. is_none (digit text (at + i))) 3
 
 -- the number that the first so many digits make
 unfoldable pub number : List ℕ → ℕ → ℕ → ℕ
-number text at many = fold (λ i v. 10 * v + digit text (at + i)) 0 many
+number text at many = fold (λ i v. 10 * v + unwrap_or (digit text (at + i)) 0) 0 many
 
 -- the number that stands at a place
 abbrev pub size : List ℕ → ℕ → ℕ
@@ -32,7 +32,7 @@ size text at = number text at (digits text at)
 
 -- "a number from 1 to 256 without leading zeros"
 unfoldable pub is_size : List ℕ → ℕ → Bool
-is_size text at = not (eqb (digit text at) 0) && (leb 1 (size text at) && leb (size text at) 256)
+is_size text at = not (eqb (byte text at) (code "0")) && (leb 1 (size text at) && leb (size text at) 256)
 
 -- where each number stands, and the first row: behind the words, which take 19, 7 and 5 bytes, and the digits before
 abbrev pub height_at : ℕ

@@ -1,27 +1,22 @@
 // Whether a text is a map: the refusals 31 to 33.
-ghost use Rattle.std.specs.Prelude.{◌≡◌};
+ghost use Rattle.std.specs.Prelude.{◌≡◌, Ok, Err, MatchResult};
+ghost use Rattle.gridmap.specs.Map.{map_of};
 ghost use Rattle.gridmap.specs.Reading.{map_fault};
+ghost use Rattle.gridmap.specs.Laws.{map_with};
 
-use super::{cells, header};
+use super::{Grid, MapFault, header};
 
-// The number of the first of 31 to 33 that applies, or 0.
+// The map that a text is; or the first of 31 to 33 that applies.
 #[tactic(auto, unfolding(crate::specs::Reading::map_fault, crate::specs::Map::count_right))]
-pub fn fault(text: &[u8]) -> u8
-    ensures { result ≡ map_fault text.now }
+pub fn checked(text: &[u8]) -> Result<Grid<'_>, MapFault>
+    ensures { MatchResult result (λ grid. (grid.text ≡ text.entry) × (map_with grid ≡ map_of text.now) × (map_fault text.now ≡ Ok tt)) (λ fault. map_fault text.now ≡ Err fault) }
 {
-    if !header::head_right(text) {
-        return 31;
+    let grid = header::head_of(text).ok_or(MapFault::BadHead)?;
+    if !grid.rows_right() {
+        return Err(MapFault::BadRows);
     }
-    let h = header::head_of(text);
-    if !cells::rows_right(text, h) {
-        return 32;
+    if !(1..=256).contains(&grid.count_open()) {
+        return Err(MapFault::BadCount);
     }
-    let n = cells::count_open(text, h);
-    if n < 1 {
-        return 33;
-    }
-    if n > 256 {
-        return 33;
-    }
-    0
+    Ok(grid)
 }

@@ -1,19 +1,18 @@
 // The estimates of a map: how far two cells are apart where every cell is open.
-ghost use Rattle.std.specs.Prelude.{◌≡◌, ◌+◌, ◌*◌, ◌≤◌, ◌<◌, length};
+ghost use Rattle.std.specs.Prelude.{◌≡◌, ◌+◌, ◌*◌, ◌≤◌, length};
 ghost use Rattle.laws.specs.Part.{overlaid};
 ghost use Rattle.laws.specs.Fill.{made};
 ghost use Rattle.gridmap.specs.Estimates.{gap, octile};
-ghost use Rattle.gridmap.specs.Laws.{apart, table_of};
+ghost use Rattle.gridmap.specs.Laws.{apart, apart_from, table_of};
+
+use super::Spot;
 
 // How far two coordinates are apart.
 #[tactic(auto, unfolding(crate::specs::Estimates::gap))]
 pub fn gap(a: u16, b: u16) -> u16
     ensures { result ≡ gap a b }
 {
-    if a <= b {
-        return b - a;
-    }
-    a - b
+    a.abs_diff(b)
 }
 
 // 1,000 times the larger plus 414 times the smaller.
@@ -21,34 +20,35 @@ pub fn gap(a: u16, b: u16) -> u16
 pub fn octile(a: u16, b: u16) -> u32
     ensures { result ≡ octile a b }
 {
-    if a <= b {
-        return 1000 * (b as u32) + 414 * (a as u32);
-    }
-    1000 * (a as u32) + 414 * (b as u32)
+    1000 * u32::from(a.max(b)) + 414 * u32::from(a.min(b))
 }
 
-// The estimates from a state to the states of these rows and columns, from a place on.
+// The estimate between two cells.
+pub fn between(a: Spot, b: Spot) -> u32
+    ensures { result ≡ apart a b }
+{
+    octile(gap(a.row, b.row), gap(a.column, b.column))
+}
+
+// The estimates from a cell to these cells.
 // Sixteen bits, and a loop without a division: so the compiler makes several estimates at a time.
-#[tactic(auto, using(laws::specs::Fill::filled_zero))]
-pub fn put_estimates_from(rows: &[u16], columns: &[u16], a: usize, at: usize, estimates: &mut [u32])
-    requires { ((length columns.now ≡ length rows.now) × (a < length rows.now)) × (at + length rows.now ≤ length estimates.old) }
-    ensures { estimates.new ≡ overlaid at (made (apart rows.now columns.now a) (length rows.now)) estimates.old }
+// By index: what is written through `iter_mut` beside another iterator isn't known afterwards.
+pub fn put_estimates_from(from: Spot, spots: &[Spot], estimates: &mut [u32])
+    requires { length estimates.old ≡ length spots.now }
+    ensures { estimates.new ≡ made (apart_from from spots.now) (length spots.now) }
 {
-    let y = rows[a];
-    let x = columns[a];
-    for b in 0..rows.len() {
-        estimates[at + b] = octile(gap(y, rows[b]), gap(x, columns[b]));
+    for (b, to) in spots.iter().enumerate() {
+        estimates[b] = between(from, *to);
     }
 }
 
-// The estimates between the states of these rows and columns, h(a,b) at a times n plus b.
-#[tactic(auto, using(crate::specs::EstimateLaws::table_zero, crate::specs::EstimateLaws::table_more, crate::specs::EstimateLaws::table_end))]
-pub fn put_estimates(rows: &[u16], columns: &[u16], estimates: &mut [u32])
-    requires { (length columns.now ≡ length rows.now) × (length rows.now * length rows.now ≤ length estimates.old) }
-    ensures { estimates.new ≡ overlaid 0 (table_of rows.now columns.now) estimates.old }
+// The estimates between these cells, h(a,b) at a times n plus b.
+pub fn put_estimates(spots: &[Spot], estimates: &mut [u32])
+    requires { length spots.now * length spots.now ≤ length estimates.old }
+    ensures { estimates.new ≡ overlaid 0 (table_of spots.now) estimates.old }
 {
-    let n = rows.len();
-    for a in 0..n {
-        put_estimates_from(rows, columns, a, a * n, estimates);
+    let n = spots.len();
+    for (a, from) in spots.iter().enumerate() {
+        put_estimates_from(*from, spots, &mut estimates[a * n..a * n + n]);
     }
 }

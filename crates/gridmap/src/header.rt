@@ -1,126 +1,100 @@
 // The head of a map's text: words, and two numbers.
-ghost use Rattle.std.specs.Prelude.{◌≡◌, true, ◌+◌, ◌≤◌, length};
-ghost use Rattle.gridmap.specs.Text.{byte, is_word, digit, digits, number, is_size, head_right};
+ghost use Rattle.std.specs.Prelude.{◌≡◌, true, false, ◌+◌, ◌≤◌, length, IfSome, MatchOption};
+ghost use Rattle.gridmap.specs.Text.{byte, is_word, digit, digits, size, head_right};
 ghost use Rattle.gridmap.specs.Map.{map_of};
-ghost use Rattle.gridmap.specs.Laws.{map_with};
+ghost use Rattle.gridmap.specs.Laws.{map_with, word_read, size_read};
 
-use super::Head;
+use super::Grid;
 
 // The byte at a place; 0 past the end.
 #[tactic(auto, unfolding(crate::specs::Text::byte))]
 pub fn byte(text: &[u8], i: usize) -> u8
     ensures { result ≡ byte text.now i }
 {
-    if i < text.len() {
-        return text[i];
-    }
-    0
+    text.get(i).copied().unwrap_or(0)
 }
 
 // Whether a word stands at a place.
-#[tactic(auto, using(laws::specs::All::all_zero, laws::specs::All::all_more), unfolding(crate::specs::Text::is_word))]
+#[tactic(auto, unfolding(crate::specs::Text::is_word))]
 pub fn is_word(text: &[u8], at: usize, word: &[u8]) -> bool
     requires { (at ≤ 64) × (length word.now ≤ 64) }
     ensures { result ≡ is_word text.now at word.now }
 {
-    for i in 0..word.len() {
-        if byte(text, at + i) != word[i] {
-            return false;
-        }
-    }
-    true
+    word.iter()
+        .enumerate()
+        .all(|(i, b)| byte(text, at + i) == *b)
 }
 
-// The digit at a place; 10 where none stands there.
-#[tactic(auto, unfolding(crate::specs::Text::digit))]
-pub fn digit(text: &[u8], i: usize) -> usize
-    ensures { (result ≡ digit text.now i) × (result ≤ 10) }
+// The place behind a word, where it stands.
+pub fn after_word(text: &[u8], at: usize, word: &[u8]) -> Option<usize>
+    requires { (at ≤ 64) × (length word.now ≤ 64) }
+    ensures { result ≡ word_read text.now at word.now }
 {
-    let b = byte(text, i);
-    if b < 48 {
-        return 10;
+    is_word(text, at, word).then_some(at + word.len())
+}
+
+// The digit at a place.
+#[tactic(auto, unfolding(crate::specs::Text::digit))]
+pub fn digit(text: &[u8], i: usize) -> Option<usize>
+    ensures { (result ≡ digit text.now i) × IfSome result (λ digit. digit ≤ 9) }
+{
+    match byte(text, i) {
+        b @ b'0'..=b'9' => Some(usize::from(b - b'0')),
+        _ => None,
     }
-    if b > 57 {
-        return 10;
-    }
-    (b - 48) as usize
 }
 
 // How many digits stand from a place on, three at most.
-#[tactic(auto, using(laws::specs::First::first_zero, laws::specs::First::first_more), unfolding(crate::specs::Text::digits))]
+#[tactic(auto, unfolding(crate::specs::Text::digits))]
 pub fn digits(text: &[u8], at: usize) -> usize
     requires { at ≤ 64 }
     ensures { (result ≡ digits text.now at) × (result ≤ 3) }
 {
-    for i in 0..3 {
-        if digit(text, at + i) == 10 {
-            return i;
-        }
-    }
-    3
+    (0..3).find(|&i| digit(text, at + i).is_none()).unwrap_or(3)
 }
 
-// The number that the first so many digits make.
-#[tactic(auto, using(crate::specs::HeadLaws::read_zero, crate::specs::HeadLaws::read_more))]
-pub fn number(text: &[u8], at: usize, many: usize) -> usize
-    requires { (at ≤ 64) × (many ≤ 3) }
-    ensures { (result ≡ number text.now at many) × (result ≤ 1110) }
-{
-    let mut v: usize = 0;
-    for i in 0..many {
-        v = 10 * v + digit(text, at + i);
-    }
-    v
-}
-
-// Whether a number from 1 to 256 without leading zeros stands at a place.
-#[tactic(auto, unfolding(crate::specs::Text::is_size))]
-pub fn is_size(text: &[u8], at: usize) -> bool
+// The number that the digits from a place on make, three at most.
+// A loop: `fold` asks that one digit more fits whatever was folded before it.
+pub fn size(text: &[u8], at: usize) -> usize
     requires { at ≤ 64 }
-    ensures { result ≡ is_size text.now at }
+    ensures { (result ≡ size text.now at) × (result ≤ 999) }
 {
-    if digit(text, at) == 0 {
-        return false;
+    let mut size = 0;
+    for i in 0..3 {
+        let Some(digit) = digit(text, at + i) else {
+            return size;
+        };
+        size = 10 * size + digit;
     }
-    let v = number(text, at, digits(text, at));
-    if v < 1 {
-        return false;
-    }
-    v <= 256
+    size
 }
 
-// Whether the head is right.
-#[tactic(auto, unfolding(crate::specs::Text::head_right, crate::specs::Text::width_at))]
-pub fn head_right(text: &[u8]) -> bool
-    ensures { result ≡ head_right text.now }
+// A number from 1 to 256 without leading zeros, and the place behind it, where one stands.
+#[tactic(auto, unfolding(crate::specs::Text::is_size))]
+pub fn size_at(text: &[u8], at: usize) -> Option<(usize, usize)>
+    requires { at ≤ 64 }
+    ensures { result ≡ size_read text.now at }
 {
-    if !is_word(text, 0, b"type octile\nheight ") {
-        return false;
+    let size = size(text, at);
+    if byte(text, at) == b'0' || !(1..=256).contains(&size) {
+        return None;
     }
-    if !is_size(text, 19) {
-        return false;
-    }
-    let a = 19 + digits(text, 19);
-    if !is_word(text, a, b"\nwidth ") {
-        return false;
-    }
-    if !is_size(text, a + 7) {
-        return false;
-    }
-    is_word(text, a + 7 + digits(text, a + 7), b"\nmap\n")
+    Some((size, at + digits(text, at)))
 }
 
-// What the head announces.
-#[tactic(auto, using(crate::specs::HeadLaws::head_is))]
-pub fn head_of(text: &[u8]) -> Head
-    requires { head_right text.now ≡ true }
-    ensures { map_with text.now result ≡ map_of text.now }
+// The map that a head announces, where the head is right.
+pub fn head_of(text: &[u8]) -> Option<Grid<'_>>
+    ensures { MatchOption result (head_right text.now ≡ false) (λ grid. (grid.text ≡ text.entry) × (map_with grid ≡ map_of text.now) × (head_right text.now ≡ true)) }
 {
-    let a = digits(text, 19);
-    let b = digits(text, 26 + a);
-    Head {
-        height: number(text, 19, a),
-        width: number(text, 26 + a, b),
-        rows: 31 + a + b,
-    }
+    let at = after_word(text, 0, b"type octile\nheight ")?;
+    let (height, at) = size_at(text, at)?;
+    let at = after_word(text, at, b"\nwidth ")?;
+    let (width, at) = size_at(text, at)?;
+    let rows = after_word(text, at, b"\nmap\n")?;
+    Some(Grid {
+        text,
+        height,
+        width,
+        rows,
+    })
 }

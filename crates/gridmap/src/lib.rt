@@ -2,106 +2,95 @@
 #![tactic(auto)]
 
 ghost use Rattle.std.specs.Prelude.{◌≡◌};
-ghost use Rattle.gridmap.specs.Reading.{read_map, spot_of, state_at_spot};
+ghost use Rattle.gridmap.specs.Reading.{read_map, spot_number, spot_of, state_at_spot};
 
 mod cells;
 mod check;
+mod faults;
 mod gaps;
+mod grid;
 mod header;
 mod neighbours;
+mod states;
 
-// A map that was read, with how many cells are open and how many passages they have; or the refusal's number.
-#[derive(Clone, Copy)]
-pub enum Survey {
-    Drawn(u32, u32),
-    Refused(u8),
+pub use faults::MapFault;
+use grid::Grid;
+use states::States;
+
+// A map that was read: how many of its cells are open, and how many passages they have.
+#[derive(Clone, Copy, Debug, PartialEq, Eq)]
+pub struct Survey {
+    pub cells: u32,
+    pub passages: u32,
 }
 
 // A cell by its row and column, both from 0.
-#[derive(Clone, Copy)]
-pub enum Spot {
-    At(u16, u16),
-    Nowhere,
+#[derive(Clone, Copy, Debug, PartialEq, Eq)]
+pub struct Spot {
+    pub row: u16,
+    pub column: u16,
 }
 
-// What a map's head announces: how high and wide the map is, and the place of its first row's first byte.
-#[derive(Clone, Copy)]
-pub struct Head {
-    pub height: usize,
-    pub width: usize,
-    pub rows: usize,
+// Row times 65,536, plus column: a number that rises as the states do.
+impl From<Spot> for u32 {
+    ghost from_gives = { λ spot number. number ≡ spot_number spot };
+
+    fn from(spot: Spot) -> u32 {
+        u32::from(spot.row) * 65536 + u32::from(spot.column)
+    }
 }
 
 // Reads a map: its passages to the front of one slice, its estimates to the front of the other.
-pub fn read_map(text: &[u8], passages: &mut [u32], estimates: &mut [u32]) -> Survey
+pub fn read_map(
+    text: &[u8],
+    passages: &mut [u32],
+    estimates: &mut [u32],
+) -> Result<Survey, MapFault>
     ensures value { result ≡ (read_map text.now passages.old estimates.old).reply }
     ensures passages_after { passages.new ≡ (read_map text.now passages.old estimates.old).passages }
     ensures estimates_after { estimates.new ≡ (read_map text.now passages.old estimates.old).estimates }
 {
-    let number = check::fault(text);
-    if number != 0 {
-        return Survey::Refused(number);
+    let grid = check::checked(text)?;
+    let mut spots = [Spot { row: 0, column: 0 }; 256];
+    let n = grid.put_spots(&mut spots);
+    let states = States {
+        grid,
+        spots: &spots[..n],
+    };
+    let many = states.count_passages();
+    if passages.len() < 3 * many || estimates.len() < n * n {
+        return Err(MapFault::ShortSlice);
     }
-    let head = header::head_of(text);
-    let mut cell = [0u32; 256];
-    let n = cells::put_cells(text, head, &mut cell);
-    let mut rows = [0u16; 256];
-    let mut columns = [0u16; 256];
-    let cell = &cell[..n];
-    cells::put_spots(text, head, cell, &mut rows, &mut columns);
-    let rows = &rows[..n];
-    let columns = &columns[..n];
-    let many = neighbours::count_passages(text, head, rows, columns);
-    if passages.len() < 3 * many {
-        return Survey::Refused(34);
-    }
-    if estimates.len() < n * n {
-        return Survey::Refused(34);
-    }
-    neighbours::put_passages(text, head, cell, rows, columns, passages);
-    gaps::put_estimates(rows, columns, estimates);
-    Survey::Drawn(n as u32, many as u32)
+    states.put_passages(passages);
+    gaps::put_estimates(states.spots, estimates);
+    Ok(Survey {
+        cells: n as u32,
+        passages: many as u32,
+    })
 }
 
 // The row and column of a state.
 #[tactic(auto, unfolding(crate::specs::Reading::spot_of))]
-pub fn spot_of(text: &[u8], state: usize) -> Spot
+pub fn spot_of(text: &[u8], state: usize) -> Option<Spot>
     ensures { result ≡ spot_of text.now state }
 {
-    if check::fault(text) != 0 {
-        return Spot::Nowhere;
-    }
-    let head = header::head_of(text);
-    let mut cell = [0u32; 256];
-    let n = cells::put_cells(text, head, &mut cell);
-    if state >= n {
-        return Spot::Nowhere;
-    }
-    let place = cell[state] as usize;
-    Spot::At(
-        (place / (head.width + 1)) as u16,
-        (place % (head.width + 1)) as u16,
-    )
+    let grid = check::checked(text).ok()?;
+    let place = grid.cell_of(state)?;
+    Some(grid.spot_at(place))
 }
 
-// The state at a row and column; 65,535 where there is none.
+// The state at a row and column.
 #[tactic(auto, unfolding(crate::specs::Reading::state_at_spot))]
-pub fn state_at(text: &[u8], row: usize, column: usize) -> u16
+pub fn state_at(text: &[u8], row: usize, column: usize) -> Option<u16>
     ensures { result ≡ state_at_spot text.now row column }
 {
-    if check::fault(text) != 0 {
-        return 65535;
+    let grid = check::checked(text).ok()?;
+    if row >= grid.height || column >= grid.width {
+        return None;
     }
-    let head = header::head_of(text);
-    if row >= head.height {
-        return 65535;
+    let place = grid.place_of(row, column);
+    if !grid.is_open_at(place) {
+        return None;
     }
-    if column >= head.width {
-        return 65535;
-    }
-    let place = row * (head.width + 1) + column;
-    if !cells::is_open(header::byte(text, head.rows + place)) {
-        return 65535;
-    }
-    cells::count_before(text, head, place) as u16
+    Some(grid.count_before(place) as u16)
 }

@@ -55,3 +55,9 @@ module _ (p : ℕ → Bool) where
   unfolding all
   all_of zero f = refl
   all_of (suc n) f = and_both (all_of n (λ x l. f x (omega arith))) (f n (omega arith))
+
+-- tests that agree below n make the same check
+pub all_same : (p q : ℕ → Bool) (n : ℕ) → ((x : ℕ) → x < n → p x ≡ q x) → all p n ≡ all q n
+unfolding all
+all_same p q zero f = refl
+all_same p q (suc n) f = rw (all_same p q n (λ x l. f x (omega arith)), f n (omega arith))

@@ -7,6 +7,8 @@ pub mod Least
 pub mod Count
 pub mod LargestLaws
 pub mod All
+pub mod Chains
+pub mod Ranges
 pub mod Table
 pub mod Difference
 pub mod Part

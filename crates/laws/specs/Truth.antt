@@ -1,7 +1,7 @@
 -- Truth values: conjunctions taken apart and put together, and the ladder of refusals.
 -- Assumes nothing.
-use Rattle.std.specs.Prelude.{◌≡◌, refl, Bool, true, false, ◌&&◌, ◌||◌, cond, ◌⊎◌, ℕ}
-use Rattle.std.proofs.Common.{sym, inl, inr}
+use Rattle.std.specs.Prelude.{◌≡◌, refl, Bool, true, false, ◌&&◌, ◌||◌, cond, ◌⊎◌, ℕ, Result, Ok, Err, is_ok}
+use Rattle.std.proofs.Common.{sym, ap, inl, inr}
 use Rattle.std.proofs.lemmas.Bool.{false≢true}
 
 pub and_left : (a b : Bool) → (a && b) ≡ true → a ≡ true
@@ -74,3 +74,16 @@ provided_held P false refusal call n p = absurd (n p)
 -- a ladder that comes to 0 beside a refusal that isn't 0: its condition holds, and the rest comes to 0
 pub provided_kept : (ok : Bool) (refusal call : ℕ) → (refusal ≡ 0 → ⊥) → provided ok refusal call ≡ 0 → (ok ≡ true) × (call ≡ 0)
 provided_kept ok refusal call n e = provided_held (λ x. x ≡ 0) ok refusal call n e
+
+-- a reply that has nothing to say but whether it is refused
+module _ {E : Type 0} where
+  pub not_refused : {V : Type 0} {v : V} {refusal : E} → Ok v ≡ Err refusal → ⊥
+  not_refused e = false≢true (sym (ap is_ok e))
+
+  pub passed : (r : Result (Unit {0}) E) → is_ok r ≡ true → r ≡ Ok tt
+  passed (Ok tt) e = refl
+  passed (Err refusal) e = absurd (false≢true e)
+
+-- a ladder that comes to `Ok` beside a refusal: its condition holds, and the rest comes to the same
+pub provided_ok : {V E : Type 0} {v : V} (ok : Bool) (refusal : E) (call : Result V E) → provided ok (Err refusal) call ≡ Ok v → (ok ≡ true) × (call ≡ Ok v)
+provided_ok {v = v} ok refusal call e = provided_held (λ x. x ≡ Ok v) ok (Err refusal) call (λ q. not_refused (sym q)) e

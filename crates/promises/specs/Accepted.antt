@@ -1,45 +1,46 @@
 -- What a task that opening accepts has: none of 1 to 7 applies, so its numbers are in range, and its estimates agree with its passages (checks 4 to 7).
-use Rattle.std.specs.Prelude.{◌≡◌, refl, Bool, true, false, cond, ℕ, ◌≤◌, eqb}
+use Rattle.std.specs.Prelude.{◌≡◌, refl, true, ℕ, ◌≤◌, Result, Ok, Err}
 use Rattle.std.proofs.Common.{sym, ◌∙◌, arith}
 use Rattle.std.proofs.Math.Dec.{leb}
-use borrow.Author.Tests.{eqb-true, leb-true, eq-eqb}
-use Rattle.laws.specs.Truth.{and_right, provided_kept}
+use borrow.Author.Tests.{eqb-true, leb-true}
+use Rattle.laws.specs.Truth.{and_right, provided_ok}
 use Rattle.laws.specs.All.{all, all_at}
 use Rattle.rule.specs.Task.{passage_count, cost, estimate}
+use Rattle.rule.specs.declared.refusals.Refusal.{Refusal}
+use Rattle.rule.specs.declared.refusals.Refusal.TheVariants.{BadEstimate, AbovePassage, AboveDetour}
 use Rattle.argument.specs.View.{Consistent}
 use Rattle.checks.specs.Opening.{Task, row_right, estimates_right, passage_bounds, passages_bound, detour_bounds, detours_by, detours_from, detours_bound}
 use Rattle.checks.specs.Opening.{early_fault, fault, holds5, holds6, holds7}
 use Rattle.checks.specs.Laws.{Right, right, fault_none, fault_late, near_in, far_in, cost_in}
 use Rattle.desk.specs.declared.Reply.TheVariants.{Opened}
-use Rattle.desk.specs.Reply.{answer, refused}
-use Rattle.desk.specs.Opening.{opening_of, opened_machine, blank_machine}
+use Rattle.desk.specs.Opening.{opening_of, opened, opened_machine}
 use Rattle.promises.specs.Demand.{Accepted, graph}
 
 -- what the proofs use of such a task
 pub record Sound (t : Task) : Type 0 where
-  pub early : early_fault t ≡ 0
+  pub early : early_fault t ≡ Ok tt
   pub right : Right t
   pub consistent : Consistent (graph t) t.n t.excess (estimate t.estimates t.n)
   pub costs : (i : ℕ) → (graph t).edge i → cost t.passages i ≤ 1000000
 
-pub accepted_fault : (t : Task) → Accepted t → fault t ≡ 0
+pub accepted_fault : (t : Task) → Accepted t → fault t ≡ Ok tt
 unfolding opening_of
-accepted_fault t = go (eqb (fault t) 0) refl
+accepted_fault t = go (fault t) refl
   where
-    go : (b : Bool) → eqb (fault t) 0 ≡ b → (cond b (answer (opened_machine t) Opened) (refused blank_machine (fault t))).reply ≡ Opened → fault t ≡ 0
-    go true e q = eqb-true (fault t) 0 e
-    go false e q = let z : ◌≡◌ {A = ℕ} 0 1 = cc in absurd (omega arith)
+    go : (r : Result (Unit {0}) Refusal) → fault t ≡ r → (opened t r).reply ≡ Opened → fault t ≡ Ok tt
+    go (Ok u) e q = e
+    go (Err refusal) e q = let z : ◌≡◌ {A = ℕ} 0 1 = cc in absurd (omega arith)
 
 pub accepted_machine : (t : Task) → Accepted t → (opening_of t).machine ≡ opened_machine t
 unfolding opening_of
-accepted_machine t a = rw (eq-eqb (fault t) 0 (accepted_fault t a))
+accepted_machine t a = rw (accepted_fault t a)
 
-module _ (t : Task) (e : fault t ≡ 0) where
+module _ (t : Task) (e : fault t ≡ Ok tt) where
   late : (holds5 t ≡ true) × ((holds6 t ≡ true) × (holds7 t ≡ true))
   late =
-      let five = provided_kept (holds5 t) 5 _ (λ q. omega arith) (sym (fault_late t (fault_none t e)) ∙ e) in
-      let six = provided_kept (holds6 t) 6 _ (λ q. omega arith) five.1 in
-      let seven = provided_kept (holds7 t) 7 0 (λ q. omega arith) six.1 in
+      let five = provided_ok (holds5 t) BadEstimate _ (sym (fault_late t (fault_none t e)) ∙ e) in
+      let six = provided_ok (holds6 t) AbovePassage _ five.1 in
+      let seven = provided_ok (holds7 t) AboveDetour _ six.1 in
       (five.0, (six.0, seven.0))
 
   numbers : Right t

@@ -41,7 +41,7 @@ pub none_blocked : (m : Machine) (passages estimates buffer : List ℕ) (at many
     → NoneBlocked passages m (path_of m passages estimates buffer at).buffer at many
 none_blocked m passages estimates buffer at many =
     path_either m passages estimates buffer at (λ r. r.given.reply ≡ Read many → NoneBlocked passages m r.buffer at many)
-    (λ number other e. let z : ◌≡◌ {A = ℕ} 0 1 = cc in absurd (omega arith))
+    (λ refusal other e. let z : ◌≡◌ {A = ℕ} 0 1 = cc in absurd (omega arith))
     (λ some room e.
     let q : length (path (trail_of m passages)) ≡ many = cc in
     subst (NoneBlocked passages m (overlaid at (path (trail_of m passages)) buffer) at) q

@@ -9,7 +9,8 @@ use Rattle.desk.specs.Reply.{refusal, when, reply_of}
 use Rattle.desk.specs.Opening.{opening_of}
 use Rattle.desk.specs.Limited.{limited_answer}
 use Rattle.desk.specs.Path.{path_of}
-use Rattle.desk.specs.Calls.{Event, call}
+use Rattle.desk.specs.declared.Event.{Event}
+use Rattle.desk.specs.Calls.{call}
 use Rattle.desk.specs.Morning.{Morning, morning_of}
 
 -- a call; later orders add theirs here

@@ -6,7 +6,8 @@ use Rattle.laws.specs.Count.{count}
 use Rattle.laws.specs.Least.{least}
 use Rattle.rule.specs.Rule.{stored_key}
 use Rattle.rule.specs.Marks.{waiting, out, is_open, is_live}
-use Rattle.rule.specs.Refusals.{nothing_out}
+use Rattle.rule.specs.declared.refusals.Refusal.{Refusal}
+use Rattle.rule.specs.declared.refusals.Refusal.TheVariants.{NothingOut}
 use Rattle.argument.specs.Route.{Graph, Walk, cost_of}
 use Rattle.checks.specs.Opening.{Task}
 use Rattle.dealing.specs.Board.{safe, key, choice, foremost}
@@ -78,7 +79,7 @@ pub record Kept (t : Task) : Type 0 where
   -- 8 never comes for a machine that was reached
   pub fitting : (day : List Call) → fits (reached t day) (hands_of (reached t day)) t.passages t.estimates ≡ true
   -- nor does 12
-  pub moving : (day : List Call) → Said t day (Refused nothing_out) → ⊥
+  pub moving : (day : List Call) → Said t day (Refused NothingOut) → ⊥
   -- the goal is never dealt, and the start stays at label 0
   pub aim : (day : List Call) → times_dealt t.goal (said t day) ≡ 0
   pub root : (day : List Call) → label_of (reached t day) t.start ≡ 0
@@ -128,17 +129,17 @@ pub record NoneBlocked (passages : List ℕ) (m : Machine) (buffer : List ℕ) (
 
 -- Order 7, a Take that knows when to stop. Of every machine, whatever is lent: "Its reply carries how many comparisons it made, equal to the count in the definition; 0 where refused. With a limit smaller than that full count it replies Cut, reports the limit and leaves the machine."
 pub record CountsRight (m : Machine) (estimates : List ℕ) (limit : ℕ) (r : Counted) : Type 0 where
-  pub refusing : (number : ℕ) → r.reply ≡ Refused number → (r.machine ≡ m) × (r.comparisons ≡ 0)
-  pub cutting : (c : ℕ) → r.reply ≡ Cut c → (c ≡ limit) × (r.machine ≡ m) × (r.comparisons ≡ limit) × (limit < full_count m.goal m.pull (board_of m estimates))
+  pub refusing : (refusal : Refusal) → r.answer.reply ≡ Refused refusal → (r.answer.machine ≡ m) × (r.comparisons ≡ 0)
+  pub cutting : (c : ℕ) → r.answer.reply ≡ Cut c → (c ≡ limit) × (r.answer.machine ≡ m) × (r.comparisons ≡ limit) × (limit < full_count m.goal m.pull (board_of m estimates))
   -- every other reply comes where the limit is enough
-  pub counting : ((number : ℕ) → r.reply ≢ Refused number) → ((c : ℕ) → r.reply ≢ Cut c)
+  pub counting : ((refusal : Refusal) → r.answer.reply ≢ Refused refusal) → ((c : ℕ) → r.answer.reply ≢ Cut c)
       → (r.comparisons ≡ full_count m.goal m.pull (board_of m estimates)) × (r.comparisons ≤ limit)
   -- the full count is at most (open states) × (open or out states − 1)
   pub most : m.goal < m.n → full_count m.goal m.pull (board_of m estimates) ≤ count (λ s. is_open (mark_of m s)) m.n * (count (λ s. is_live (mark_of m s)) m.n - 1)
 
 -- "On a task that opening accepted and a machine reached from it by calls, it otherwise replies as Take does", and hands back the machine that Take hands back
 pub record LikeTake (t : Task) : Type 0 where
-  pub alike : (day : List Call) (worker limit : ℕ) → let m = reached t day in let r = limited_of m t.passages t.estimates worker limit in let a = take_of m t.passages t.estimates worker in
+  pub alike : (day : List Call) (worker limit : ℕ) → let m = reached t day in let r = (limited_of m t.passages t.estimates worker limit).answer in let a = take_of m t.passages t.estimates worker in
       ((c : ℕ) → r.reply ≢ Cut c) → (r.machine ≡ a.machine) × (r.reply ≡ a.reply)
 
 -- Order 8, keep the key. Of every machine that fits, whatever is lent: Take, Wait's choice and limited Take ask for the keys of open states alone, and what is stored for these is their key;

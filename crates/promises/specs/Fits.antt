@@ -1,6 +1,6 @@
 -- Every reached machine fits: the invariant with the machine's own clauses of 8, which opening makes and every call keeps.
 -- A label is small because its chain is short.
-use Rattle.std.specs.Prelude.{◌≡◌, refl, ◌⊎◌, ◌≢◌, List, ℕ, zero, suc, ◌*◌, ◌≤◌, ◌<◌, eqb, get_or, replicate}
+use Rattle.std.specs.Prelude.{◌≡◌, refl, ◌⊎◌, ◌≢◌, List, ℕ, zero, suc, ◌*◌, ◌≤◌, ◌<◌, eqb, get_or, replicate, is_ok, Ok}
 use Rattle.std.proofs.Common.{sym, ◌∙◌, inr, arith}
 use Rattle.std.proofs.Math.Path.{ap}
 use Rattle.std.proofs.Math.Logic.{inl}
@@ -19,7 +19,7 @@ use Rattle.rule.specs.Marks.{out, none, is_mark}
 use Rattle.argument.specs.Chain.{chain_cost, fixed}
 use Rattle.argument.specs.Steps.{at_or}
 use Rattle.argument.specs.Good.{good_fresh}
-use Rattle.checks.specs.Opening.{Task, early_fault, fault}
+use Rattle.checks.specs.Opening.{Task, fault}
 use Rattle.checks.specs.Fits.{marks_right, labels_right, worker_right, workers_right, holders, held_right, held_once}
 use Rattle.dealing.specs.Board.{safe}
 use Rattle.dealing.specs.declared.Decision.{Decision}
@@ -29,7 +29,8 @@ use Rattle.desk.specs.Machine.{hands_of, held_by, mark_of, label_of, task_of, bo
 use Rattle.desk.specs.Fits.{task_fits, keys_fit, is_sound, rows_fit, fits}
 use Rattle.desk.specs.Opening.{opened_machine}
 use Rattle.desk.specs.Take.{dealt, act}
-use Rattle.desk.specs.Calls.{Event, call}
+use Rattle.desk.specs.declared.Event.{Event}
+use Rattle.desk.specs.Calls.{call}
 use Rattle.desk.specs.CallLaws.{call_task}
 use Rattle.desk.specs.KeyLaws.{call_stays, opened_keys}
 use Rattle.promises.specs.Demand.{graph}
@@ -102,7 +103,7 @@ module _ (t : Task) (a : Sound t) where
     });
   }
 
-  pub opened_steady : fault t ≡ 0 → Steady t.passages t.estimates (opened_machine t)
+  pub opened_steady : fault t ≡ Ok tt → Steady t.passages t.estimates (opened_machine t)
   unfolding opened_machine
   opened_steady e = record {
     sure = opened_sure;
@@ -186,13 +187,13 @@ module _ {passages estimates : List ℕ} {m : Machine} (z : Orderly passages est
       given_back worker passed carried
 
   call_orderly : (e : Event) → Orderly passages estimates (call passages estimates m e).machine
-  call_orderly = call_either passages estimates m (λ a. Orderly passages estimates a.machine) (λ number l. z)
+  call_orderly = call_either passages estimates m (λ a. Orderly passages estimates a.machine) (λ refusal l. z)
       (λ worker a e d k. act_orderly z worker a.worker_in e d k)
       (λ worker a o. bring_orderly worker a.worker_in o)
 
 module _ {passages estimates : List ℕ} {m : Machine} (z : Steady passages estimates m) where
   is_sound_lem : is_sound m passages estimates ≡ true
-  is_sound_lem = and_both (eq-eqb (early_fault (task_of m passages estimates)) 0 z.sure.task.early) z.keys
+  is_sound_lem = and_both (ap is_ok z.sure.task.early) z.keys
 
   -- no call makes the keys wrong, or reaches past n
   pub call_steady : (e : Event) → Steady passages estimates (call passages estimates m e).machine

@@ -22,7 +22,7 @@ use Rattle.promises.specs.Theorem.{run}
 pub counts_right : (m : Machine) (passages estimates : List ℕ) (worker limit : ℕ) → CountsRight m estimates limit (limited_of m passages estimates worker limit)
 counts_right m passages estimates worker limit =
     limited_ends m passages estimates worker limit (CountsRight m estimates limit)
-    (λ number k. record { refusing = λ x e. (refl, refl); cutting = λ c e. absurd (omega (arith, ap case_of e)); counting = λ r c. absurd (r number refl); most = few })
+    (λ turned k. record { refusing = λ x e. (refl, refl); cutting = λ c e. absurd (omega (arith, ap case_of e)); counting = λ r c. absurd (r turned refl); most = few })
     (λ l k. record {
       refusing = λ number e. absurd (omega (arith, ap case_of e));
       cutting = λ c e. (sym (ap value_of e), refl, refl, l);
@@ -43,7 +43,7 @@ pub like_take : (t : Task) → Accepted t → LikeTake t
 like_take t accepted = record { alike = λ day worker limit. go (reached t day) worker limit (limited_alike (run t accepted day).stands worker limit) }
   where
     go : (m : Machine) (worker limit : ℕ) → CutOrTake m t.passages t.estimates worker limit
-        → let r = limited_of m t.passages t.estimates worker limit in let a = take_of m t.passages t.estimates worker in
+        → let r = (limited_of m t.passages t.estimates worker limit).answer in let a = take_of m t.passages t.estimates worker in
         ((c : ℕ) → r.reply ≢ Cut c) → (r.machine ≡ a.machine) × (r.reply ≡ a.reply)
     go m worker limit (inl e) uncut = absurd (uncut limit (ap (λ (x : Answer). x.reply) (limited_given m t.passages t.estimates worker limit ∙ e)))
     go m worker limit (inr e) uncut =

@@ -15,7 +15,8 @@ use Rattle.desk.specs.Machine.{hands_of, held_by, label_of, board_of}
 use Rattle.desk.specs.Reply.{value_of, code_of, reply_of}
 use Rattle.desk.specs.Take.{act}
 use Rattle.desk.specs.Bring.{Swept, swept, apply_passage, sweep_of}
-use Rattle.desk.specs.Calls.{Event, call, answers, replies}
+use Rattle.desk.specs.declared.Event.{Event}
+use Rattle.desk.specs.Calls.{call, answers, replies}
 use Rattle.desk.specs.Morning.{events_of, morning_of}
 use Rattle.desk.specs.Laws.{Admitted, fitting, apply_either}
 use Rattle.desk.specs.CallLaws.{replies_length, code_back}
@@ -52,7 +53,7 @@ module _ (passages estimates : List ℕ) (m : Machine) where
   reply_small : (e : Event) → value_of (call passages estimates m e).reply < 4294967296
   reply_small =
       call_either passages estimates m (λ a. value_of a.reply < 4294967296)
-      (λ number l. omega arith)
+      (λ refusal l. omega arith)
       (λ worker a e d k. act_small worker a d k)
       (λ worker a o. omega (arith, sweep_many m passages estimates (held_by (hands_of m) worker), (fitting m (hands_of m) passages estimates a.fit).task.few))
 
@@ -82,5 +83,5 @@ pub as_singly : (passages estimates : List ℕ) (m : Machine) (events row : List
     → AsSingly passages estimates m events row (morning_of m passages estimates events row)
 as_singly passages estimates m events row =
     morning_either passages estimates m events row (λ o. o.given.reply ≡ Done → AsSingly passages estimates m events row o)
-    (λ number l d. let z : ◌≡◌ {A = ℕ} 0 1 = cc in absurd (omega arith))
+    (λ refusal l d. let z : ◌≡◌ {A = ℕ} 0 1 = cc in absurd (omega arith))
     (λ d. record { machine = refl; replied = row_back passages estimates m events row; behind = row_behind passages estimates m events row })

@@ -13,7 +13,8 @@ use Rattle.desk.specs.declared.Answer.{Answer}
 use Rattle.desk.specs.Machine.{hands_of, held_by, mark_of, label_of, board_of}
 use Rattle.desk.specs.Take.{dealt, act}
 use Rattle.desk.specs.Bring.{sweep_of}
-use Rattle.desk.specs.Calls.{Event, call}
+use Rattle.desk.specs.declared.Event.{Event}
+use Rattle.desk.specs.Calls.{call}
 use Rattle.promises.specs.Demand.{deals}
 use Rattle.promises.specs.View.{Sure}
 use Rattle.dealing.specs.Laws.{safe_is_open}
@@ -79,4 +80,4 @@ module _ {passages estimates : List ℕ} {m : Machine} (z : Sure passages estima
       omega (arith, gone_stays m (finished_by worker p m') s (finish_stays worker p (label_of m p) m' passed stays))
 
   pub call_once : (e : Event) → Once m s (call passages estimates m e)
-  call_once = call_either passages estimates m (Once m s) (λ number l. omega arith) (λ worker a e d k. act_once worker d k) (λ worker a o. bring_once worker (held_by (hands_of m) worker) o)
+  call_once = call_either passages estimates m (Once m s) (λ refusal l. omega arith) (λ worker a e d k. act_once worker d k) (λ worker a o. bring_once worker (held_by (hands_of m) worker) o)

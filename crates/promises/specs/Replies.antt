@@ -1,11 +1,12 @@
 -- What a call's reply says is so, of the task that the machine's numbers and the lent slices make.
 use Rattle.std.specs.Prelude.{◌≡◌, refl, ◌≢◌, true, List, ℕ, ◌*◌, ◌≤◌}
-use Rattle.std.proofs.Common.{sym, ◌∙◌, true≢false, arith}
+use Rattle.std.proofs.Common.{sym, ap, ◌∙◌, true≢false, arith}
 use Rattle.std.proofs.Math.Path.{subst⁻¹}
 use Rattle.rule.specs.Task.{passage_count, estimate}
 use Rattle.argument.specs.Route.{cost_of, walk_route}
 use Rattle.argument.specs.Good.{found_cost, found_chain, no_path}
-use Rattle.rule.specs.Refusals.{nothing_out}
+use Rattle.rule.specs.declared.refusals.Refusal.TheVariants.{NothingOut}
+use Rattle.rule.specs.Refusals.{number_of}
 use Rattle.checks.specs.Opening.{Task}
 use Rattle.dealing.specs.Board.{safe}
 use Rattle.dealing.specs.declared.Decision.{Decision}
@@ -15,7 +16,8 @@ use Rattle.desk.specs.declared.Reply.{Reply}
 use Rattle.desk.specs.declared.Reply.TheVariants.{Opened, Took, Brought, Found, NoPath, Wait, Read, Refused, Done, Cut}
 use Rattle.desk.specs.Machine.{mark_of, with_phase, label_of, task_of, board_of, hands_of}
 use Rattle.desk.specs.Take.{act}
-use Rattle.desk.specs.Calls.{Event, call}
+use Rattle.desk.specs.declared.Event.{Event}
+use Rattle.desk.specs.Calls.{call}
 use Rattle.promises.specs.Demand.{graph, IsRoute, route_cost, PathRight}
 use Rattle.promises.specs.Accepted.{Sound}
 use Rattle.promises.specs.View.{between, applied}
@@ -35,7 +37,7 @@ Says t m (Found c) = (m.phase ≡ 1) × PathRight t m c
 Says t m NoPath = (way : List ℕ) → IsRoute t way → ⊥
 Says t m (Wait s) = Unit {0}
 Says t m (Read many) = Unit {0}
-Says t m (Refused number) = number ≢ nothing_out
+Says t m (Refused refusal) = refusal ≢ NothingOut
 Says t m Done = Unit {0}
 Says t m (Cut limit) = Unit {0}
 
@@ -48,7 +50,7 @@ says_later t m m' still (Found c) s = subst⁻¹ (λ (x : Machine). Says t x (Fo
 says_later t m m' still NoPath s = s
 says_later t m m' still (Wait x) s = s
 says_later t m m' still (Read many) s = s
-says_later t m m' still (Refused number) s = s
+says_later t m m' still (Refused refusal) s = s
 says_later t m m' still Done s = s
 says_later t m m' still (Cut limit) s = s
 
@@ -98,7 +100,7 @@ module _ {passages estimates : List ℕ} {m : Machine} (z : Steady passages esti
 
   pub call_says : (e : Event) → Says (task_of m passages estimates) (call passages estimates m e).machine (call passages estimates m e).reply
   call_says e =
-      call_either passages estimates m (λ a. Steady passages estimates a.machine → Says t a.machine a.reply) (λ number l y. omega arith)
+      call_either passages estimates m (λ a. Steady passages estimates a.machine → Says t a.machine a.reply) (λ refusal l y e. absurd (omega (arith, ap number_of e)))
       (λ worker a h d k y. act_says worker d k y)
       (λ worker a o y. tt)
       e (call_steady z e)

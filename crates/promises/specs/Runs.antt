@@ -5,7 +5,8 @@ use Rattle.std.proofs.Math.Path.{refl, subst⁻¹}
 use Rattle.std.proofs.Common.{subst, ap, ◌∙◌, inl, inr, ⊎_elim, arith}
 use mathlib.Core.List.Memᴰ
 use mathlib.Core.List.{List, [], ◌∷◌, ◌++◌, Memᴰ}
-use Rattle.rule.specs.Refusals.{nothing_out}
+use Rattle.rule.specs.declared.refusals.Refusal.{Refusal}
+use Rattle.rule.specs.declared.refusals.Refusal.TheVariants.{NothingOut}
 use Rattle.checks.specs.Opening.{Task}
 use Rattle.desk.specs.declared.Machine.{Machine}
 use Rattle.desk.specs.declared.Reply.{Reply}
@@ -13,7 +14,9 @@ use Rattle.desk.specs.declared.Reply.TheVariants.{Read, Refused, Done, Cut}
 use Rattle.desk.specs.declared.Answer.{Answer}
 use Rattle.desk.specs.Machine.{task_of}
 use Rattle.desk.specs.Reply.{answer}
-use Rattle.desk.specs.Calls.{Event, take, call, answers, replies, after}
+use Rattle.desk.specs.declared.Event.{Event}
+use Rattle.desk.specs.declared.Event.TheVariants.{Take}
+use Rattle.desk.specs.Calls.{call, answers, replies, after}
 use Rattle.desk.specs.Morning.{events_of}
 use Rattle.promises.specs.Day.{Call, single, morning, reading, limited, answer_to, in_row, replies_to, reached_from, said_from}
 use Rattle.promises.specs.Demand.{deals, times_dealt}
@@ -84,7 +87,7 @@ module _ (passages estimates : List ℕ) where
   -- with phase 1 it is refused, and hands the machine back as it came
   call_still : (m : Machine) → m.phase ≡ 1 → (e : Event) → (call passages estimates m e).machine ≡ m
   call_still m p =
-      call_either passages estimates m (λ a. a.machine ≡ m) (λ number l. refl)
+      call_either passages estimates m (λ a. a.machine ≡ m) (λ refusal l. refl)
       (λ worker a e d k. absurd (omega (arith, a.searching)))
       (λ worker a o. absurd (omega (arith, a.searching)))
 
@@ -103,8 +106,8 @@ module _ {t : Task} where
 
   module _ {m : Machine} (z : Standing t m) where
     -- a refusal, of whatever call, is one
-    refused_run : (number : ℕ) → number ≢ nothing_out → Run t m m (Refused number ∷ [])
-    refused_run number l = run_told z (Refused number) (λ s. refl) l
+    refused_run : (refusal : Refusal) → refusal ≢ NothingOut → Run t m m (Refused refusal ∷ [])
+    refused_run refusal l = run_told z (Refused refusal) (λ s. refl) l
 
     -- a morning that is served is its events made singly, whose replies stand in the row, and then Done
     morning_run : (events row : List ℕ) → Run t m (answer_to t m (morning events row)).machine (replies_to t m (morning events row))
@@ -124,7 +127,7 @@ module _ {t : Task} where
         cut_or_take m t.passages t.estimates worker limit sound.right.goal_in sound.right.pulled sound.consistent.triangle
 
     limited_run : (worker limit : ℕ) → Run t m (answer_to t m (limited worker limit)).machine (replies_to t m (limited worker limit))
-    limited_run worker limit = ⊎_elim (λ e. rw e (run_told z (Cut limit) (λ s. refl) tt)) (λ e. rw e (event_run z (take worker))) (limited_alike worker limit)
+    limited_run worker limit = ⊎_elim (λ e. rw e (run_told z (Cut limit) (λ s. refl) tt)) (λ e. rw e (event_run z (Take worker))) (limited_alike worker limit)
 
     call_run : (c : Call) → Run t m (answer_to t m c).machine (replies_to t m c)
     call_run (single e) = event_run z e

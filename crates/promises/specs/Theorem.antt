@@ -3,7 +3,7 @@ use Rattle.std.specs.Prelude.{◌≡◌, refl, List, ◌≤◌, leb}
 use Rattle.std.proofs.Common.{subst, arith}
 use Rattle.std.proofs.Math.Path.{subst⁻¹, ap}
 use Rattle.laws.specs.Count.{one_max}
-use Rattle.rule.specs.Refusals.{nothing_out}
+use Rattle.rule.specs.declared.refusals.Refusal.TheVariants.{NothingOut}
 use Rattle.checks.specs.Opening.{Task}
 use Rattle.desk.specs.declared.Machine.{Machine}
 use Rattle.desk.specs.declared.Reply.TheVariants.{Found, NoPath, Refused}
@@ -45,7 +45,7 @@ demand3 t a = record {
 pub kept : (t : Task) → Accepted t → Kept t
 kept t a = record {
   fitting = λ day. steady_fits (run t a day).stands.steady;
-  moving = λ day i. (run t a day).says (Refused nothing_out) i refl;
+  moving = λ day i. (run t a day).says (Refused NothingOut) i refl;
   aim = λ day. omega (arith, (run t a day).once t.goal, gone_no (reached t day) t.goal (goal_waits t a day));
   root = start_root t a;
 }

@@ -16,7 +16,8 @@ use Rattle.desk.specs.declared.Machine.{Machine}
 use Rattle.desk.specs.declared.Reply.TheVariants.{Wait}
 use Rattle.desk.specs.Machine.{mark_of, board_of, hands_of}
 use Rattle.desk.specs.Take.{act}
-use Rattle.desk.specs.Calls.{Event, call}
+use Rattle.desk.specs.declared.Event.{Event}
+use Rattle.desk.specs.Calls.{call}
 use Rattle.promises.specs.Demand.{Foremost, HeldUp, WaitsFor}
 use Rattle.promises.specs.Progress.{independent_of, Chosen}
 use Rattle.promises.specs.Calls.{call_either}
@@ -108,6 +109,6 @@ module _ (m : Machine) (estimates : List ℕ) where
 pub waits : (passages estimates : List ℕ) (m : Machine) (e : Event) (t : ℕ) → (call passages estimates m e).reply ≡ Wait t → WaitsFor m estimates t
 waits passages estimates m =
     call_either passages estimates m (λ a. (t : ℕ) → a.reply ≡ Wait t → WaitsFor m estimates t)
-    (λ number l t e. let z : ◌≡◌ {A = ℕ} 0 1 = cc in absurd (omega arith))
+    (λ refusal l t e. let z : ◌≡◌ {A = ℕ} 0 1 = cc in absurd (omega arith))
     (λ worker a e d k. act_waits m estimates worker d k)
     (λ worker a o t e. let z : ◌≡◌ {A = ℕ} 0 1 = cc in absurd (omega arith))

@@ -1,27 +1,32 @@
--- The status by what reading a file comes to.
-use Rattle.std.specs.Prelude.{◌≡◌, cond, List, ℕ, ◌*◌, take, eqb}
-use Rattle.std.proofs.Common.{ap, eq-eqb, ne_eqb}
+-- What a file comes to by what reading it comes to.
+use Rattle.std.specs.Prelude.{◌≡◌, List, ℕ, ◌*◌, take, Result, Ok, Err}
+use Rattle.std.proofs.Common.{ap}
+use Rattle.rule.specs.declared.refusals.Refusal.{Refusal}
+use Rattle.desk.specs.declared.Reply.TheVariants.{Refused}
+use Rattle.desk.specs.declared.Answer.{Answer}
+use Rattle.desk.specs.Reply.{when, refusal}
 use Rattle.taskfile.specs.declared.Contents.{Contents}
-use Rattle.taskfile.specs.declared.Outcome.{Outcome}
-use Rattle.taskfile.specs.declared.Outcome.TheVariants.{Read, Fault}
-use Rattle.report.specs.Text.{reading}
-use Rattle.report.specs.Status.{refusal_at, outcome_status, status_of}
+use Rattle.taskfile.specs.declared.faults.Fault.{Fault}
+use Rattle.report.specs.declared.status.Ending.TheVariants.{Run, FileFault, OpeningRefused}
+use Rattle.report.specs.Text.{opening_read, reading}
+use Rattle.report.specs.Laws.{NotRefused, not_refused}
+use Rattle.report.specs.Status.{outcome_ending, ending_of}
 
-status_as : (file : List ℕ) (o : Outcome) → o ≡ (reading file).outcome → outcome_status (reading file) o ≡ status_of file
-unfolding status_of
-status_as file o e = ap (outcome_status (reading file)) e
+ending_as : (file : List ℕ) (o : Result Contents Fault) → o ≡ (reading file).outcome → outcome_ending (reading file) o ≡ ending_of file
+unfolding ending_of
+ending_as file o e = ap (outcome_ending (reading file)) e
 
-pub status_fault : (file : List ℕ) (number offset : ℕ) → Fault number offset ≡ (reading file).outcome → 1 ≡ status_of file
-status_fault file number offset e = status_as file (Fault number offset) e
+pub ending_fault : (file : List ℕ) (fault : Fault) → Err fault ≡ (reading file).outcome → FileFault ≡ ending_of file
+ending_fault file fault e = ending_as file (Err fault) e
 
--- a task that was read, with opening's refusal of it
-module _ (file : List ℕ) (c : Contents) (e : Read c ≡ (reading file).outcome) (passages estimates : List ℕ) (x : passages ≡ (reading file).passages) (y : estimates ≡ (reading file).estimates)
-    (number : ℕ) (f : number ≡ refusal_at c (take (3 * c.passages) passages) (take (c.n * c.n) estimates)) where
-  status_task : cond (eqb number 0) 0 2 ≡ status_of file
-  status_task = rw (f, x, y) (status_as file (Read c) e)
+-- a task that was read, and the answer to its opening
+module _ (file : List ℕ) (c : Contents) (e : Ok c ≡ (reading file).outcome) (passages estimates : List ℕ) (x : passages ≡ (reading file).passages) (y : estimates ≡ (reading file).estimates)
+    (a : Answer) (f : a ≡ opening_read c (take (3 * c.passages) passages) (take (c.n * c.n) estimates)) where
+  ending_task : when refusal a.reply (λ _. OpeningRefused) Run ≡ ending_of file
+  ending_task = rw (f, x, y) (ending_as file (Ok c) e)
 
-  pub status_run : number ≡ 0 → 0 ≡ status_of file
-  status_run z = rw (eq-eqb number 0 z) at status_task
+  pub ending_refused : (why : Refusal) → a.reply ≡ Refused why → OpeningRefused ≡ ending_of file
+  ending_refused why r = rw r at ending_task
 
-  pub status_refused : (number ≡ 0 → ⊥) → 2 ≡ status_of file
-  status_refused n = rw (ne_eqb number 0 n) at status_task
+  pub ending_run : NotRefused a.reply → Run ≡ ending_of file
+  ending_run n = rw (not_refused a.reply n) at ending_task

@@ -2,7 +2,8 @@
 pub mod Decimal
 pub mod Line
 pub mod Text
+pub mod Status
 pub mod Laws
+pub mod PageLaws
 pub mod LineLaws
 pub mod SessionLaws
-pub mod Status

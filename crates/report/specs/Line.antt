@@ -1,6 +1,7 @@
 -- Lines: "a word, the worker, a number where there is one", and the path line.
 use Rattle.std.specs.Prelude.{List, [], ◌∷◌, ◌++◌, ℕ, replicate, take}
 use Prim.Native.String.{String}
+use Rattle.rule.specs.Refusals.{number_of}
 use Rattle.desk.specs.declared.Reply.{Reply}
 use Rattle.desk.specs.declared.Reply.TheVariants.{Opened, Took, Brought, Found, NoPath, Wait, Read, Refused, Done, Cut}
 use Rattle.desk.specs.declared.Answer.{Answer}
@@ -26,7 +27,7 @@ line_of worker (Found cost) = line "found" (worker ∷ cost ∷ [])
 line_of worker NoPath = line "nopath" (worker ∷ [])
 line_of worker (Wait s) = line "wait" (worker ∷ s ∷ [])
 line_of worker (Read many) = []
-line_of worker (Refused number) = line "refused" (worker ∷ number ∷ [])
+line_of worker (Refused refusal) = line "refused" (worker ∷ number_of refusal ∷ [])
 line_of worker Done = []
 line_of worker (Cut limit) = []
 

@@ -1,24 +1,14 @@
--- Pieces of text written one after another, and the places that numbers, lines and states take.
+-- Numbers in decimal and lines, as a page's methods build them, and the places that they take.
 use Rattle.std.specs.Prelude.{◌≡◌, refl, Bool, true, false, cond, List, [], ◌∷◌, ◌++◌, length, get_or, take, ltb}
-use Rattle.std.proofs.Common.{sym, ap, ◌∙◌, append-nil, append_assoc, pow-suc, add-one, length-append, take_all, take-suc, lt-ltb, le-ltb}
+use Rattle.std.proofs.Common.{ap, append-nil, append_assoc, pow-suc, add-one, length-append, take_all, take-suc, lt-ltb, le-ltb}
 use Prim.Native.Nat.{ℕ, zero, suc, ◌+◌, ◌*◌, ◌-◌, ◌/◌, ◌%◌, ◌^◌, ◌≤◌, ◌<◌}
 use native.Mathlib.Omega.{arith}
-use Rattle.laws.specs.Put.{Put, put_next, put_none, put_length, put_three}
-use Rattle.laws.specs.Fill.{made, Filled, filled_end}
 use Rattle.laws.specs.Ascii.{ascii}
+use Rattle.report.specs.declared.page.Page.{Page}
 use Rattle.report.specs.Decimal.{glyph, decimal_in, decimal}
 use Rattle.report.specs.Line.{numbers}
+use Rattle.report.specs.PageLaws.{Written, written_next}
 use Rattle.report.specs.Laws.{spaced}
-
--- a word, written byte by byte
-made_word : (word : List ℕ) (i : ℕ) → i ≤ length word → made (λ k. get_or word k 0) i ≡ take i word
-unfolding made
-made_word word zero h = refl
-made_word word (suc i) h = ap (λ (l : List ℕ). l ++ (get_or word i 0 ∷ [])) (made_word word i (omega arith)) ∙ sym (take-suc word i 0 h)
-
-pub word_end : (at i : ℕ) (word l₀ l : List ℕ) → Filled (λ k. get_or word k 0) at l₀ l i → i ≤ length word → length word ≤ i → Put at word l₀ l (at + length word)
-word_end at i word l₀ l w a b =
-    record { done = rw (made_word word (length word) (omega arith), take_all (length word) word (omega arith)) at (filled_end (λ k. get_or word k 0) at (length word) l₀ l i w a b); next = refl }
 
 -- a number takes so many places at most
 decimal_most : (most n : ℕ) → length (decimal_in most n) ≤ most
@@ -32,9 +22,6 @@ decimal_most (suc more) n = go (ltb n 10) (decimal_most more (n / 10))
 
 decimal_le : (n : ℕ) → length (decimal n) ≤ 20
 decimal_le n = decimal_most 20 n
-
-pub digits_room : (most n : ℕ) {at r : ℕ} {l₀ l : List ℕ} → Put at (decimal_in most n) l₀ l r → r ≤ at + most
-digits_room most n p = omega (arith, p.next, decimal_most most n)
 
 -- none is cut off a number of 64 bits: it can be read back
 abbrev pub read_back : ℕ → List ℕ → ℕ
@@ -57,50 +44,37 @@ digits_back (suc more) n l = go (ltb n 10) refl (digits_back more (n / 10) (omeg
 pub decimal_back : (n : ℕ) → n < 18446744073709551616 → read_back 0 (decimal n) ≡ n
 decimal_back n l = digits_back 20 n (omega arith)
 
--- its digits, put one after another: none, one alone, or one behind the others
-module _ (at n : ℕ) (l₀ : List ℕ) where
-  pub digits_none : (most : ℕ) → most ≡ 0 → Put at (decimal_in most n) l₀ l₀ at
+-- a number that fits so many digits is the same where there may be one more; so its last digit stands behind the decimal of the others
+decimal_enough : (most n : ℕ) → n < 10 ^ suc most → decimal_in (suc (suc most)) n ≡ decimal_in (suc most) n
+unfolding decimal_in
+decimal_enough zero n l = rw (lt-ltb n 10 (omega (arith, pow-suc 10 zero)))
+decimal_enough (suc most) n l = ap (λ (front : List ℕ). cond (ltb n 10) (glyph n ∷ []) (front ++ (glyph (n % 10) ∷ []))) (decimal_enough most (n / 10) (omega (arith, pow-suc 10 (suc most))))
+
+module _ (n : ℕ) where
+  front_enough : n < 18446744073709551616 → decimal (n / 10) ≡ decimal_in 19 (n / 10)
+  front_enough l = decimal_enough 18 (n / 10) (omega arith)
+
+  pub front_le : n < 18446744073709551616 → length (decimal (n / 10)) ≤ 19
+  front_le l = rw (front_enough l) (decimal_most 19 (n / 10))
+
+  decimal_digit : n < 10 → glyph (n % 10) ∷ [] ≡ decimal n
   unfolding decimal_in
-  digits_none most e = rw e (put_none at l₀)
+  decimal_digit l = rw (lt-ltb n 10 l) (ap (λ (d : ℕ). glyph d ∷ []) (omega arith))
 
-  pub digits_one : (most r : ℕ) (l : List ℕ) → (most ≡ 0 → ⊥) → n < 10 → Put at (glyph n ∷ []) l₀ l r → Put at (decimal_in most n) l₀ l r
+  longer : 10 ≤ n → decimal_in 19 (n / 10) ++ (glyph (n % 10) ∷ []) ≡ decimal_in 20 n
   unfolding decimal_in
-  digits_one zero r l z h p = absurd (z refl)
-  digits_one (suc more) r l z h p = rw (lt-ltb n 10 h) p
+  longer h = rw (le-ltb n 10 h)
 
-  pub digits_more : (most p r : ℕ) (l₁ l₂ : List ℕ) → (most ≡ 0 → ⊥) → 10 ≤ n → at + most ≤ length l₀
-      → Put at (decimal_in (most - 1) (n / 10)) l₀ l₁ p → Put p (glyph (n % 10) ∷ []) l₁ l₂ r → Put at (decimal_in most n) l₀ l₂ r
-  unfolding decimal_in
-  digits_more zero p r l₁ l₂ z h room a b = absurd (z refl)
-  digits_more (suc more) p r l₁ l₂ z h room a b =
-      let less : suc more - 1 ≡ more = omega arith in
-      rw (le-ltb n 10 h) (put_next at p r (decimal_in more (n / 10)) (glyph (n % 10) ∷ []) l₀ l₁ l₂ (rw less at a) b (omega (arith, decimal_most more (n / 10))))
+  decimal_more : 10 ≤ n → n < 18446744073709551616 → decimal (n / 10) ++ (glyph (n % 10) ∷ []) ≡ decimal n
+  decimal_more h l = rw (front_enough l) (longer h)
 
--- a blank and a number
-put_number : (at p r n : ℕ) (l₀ l₁ l₂ : List ℕ) → Put at (ascii " ") l₀ l₁ p → Put p (decimal n) l₁ l₂ r → at < length l₀ → Put at (ascii " " ++ decimal n) l₀ l₂ r
-put_number at p r n l₀ l₁ l₂ a b h = put_next at p r (ascii " ") (decimal n) l₀ l₁ l₂ a b (omega arith)
+  -- on a page: one digit alone, or one behind the others
+  module _ (p q : Page) where
+    pub written_digit : n < 10 → Written (glyph (n % 10) ∷ []) p q → Written (decimal n) p q
+    written_digit l w = rw (← decimal_digit l) w
 
--- a word and one number; a word and two
-pub put_line1 : (at p q r s a : ℕ) (word l₀ l₁ l₂ l₃ l₄ : List ℕ) → Put at word l₀ l₁ p → Put p (ascii " ") l₁ l₂ q → Put q (decimal a) l₂ l₃ r → Put r (ascii "\n") l₃ l₄ s
-    → length word ≤ 7 → at + 50 ≤ length l₀ → Put at (word ++ numbers (a ∷ [])) l₀ l₄ s × (s ≤ at + 50)
-unfolding numbers
-put_line1 at p q r s a word l₀ l₁ l₂ l₃ l₄ w b d e short room =
-    let few : length (decimal a) ≤ 20 = decimal_le a in
-    let long : length l₁ ≡ length l₀ = put_length at p word l₀ l₁ w (omega arith) in
-    (put_three at p r s word (ascii " " ++ decimal a) (ascii "\n") l₀ l₁ l₃ l₄ w (put_number p q r a l₁ l₂ l₃ b d (omega arith)) e (omega arith), omega arith)
-
-pub put_line2 : (at p q r s t u a b : ℕ) (word l₀ l₁ l₂ l₃ l₄ l₅ l₆ : List ℕ) → Put at word l₀ l₁ p → Put p (ascii " ") l₁ l₂ q → Put q (decimal a) l₂ l₃ r
-    → Put r (ascii " ") l₃ l₄ s → Put s (decimal b) l₄ l₅ t → Put t (ascii "\n") l₅ l₆ u
-    → length word ≤ 7 → at + 50 ≤ length l₀ → Put at (word ++ numbers (a ∷ b ∷ [])) l₀ l₆ u × (u ≤ at + 50)
-unfolding numbers
-put_line2 at p q r s t u a b word l₀ l₁ l₂ l₃ l₄ l₅ l₆ w x d y f e short room =
-    let few : length (decimal a) ≤ 20 = decimal_le a in
-    let few' : length (decimal b) ≤ 20 = decimal_le b in
-    let long : length l₁ ≡ length l₀ = put_length at p word l₀ l₁ w (omega arith) in
-    let one = put_number p q r a l₁ l₂ l₃ x d (omega arith) in
-    let long' : length l₃ ≡ length l₁ = put_length p r (ascii " " ++ decimal a) l₁ l₃ one (omega arith) in
-    let two = put_number r s t b l₃ l₄ l₅ y f (omega arith) in
-    (put_three at p r u word (ascii " " ++ decimal a) (ascii " " ++ (decimal b ++ ascii "\n")) l₀ l₁ l₃ l₆ w one (put_next r t u (ascii " " ++ decimal b) (ascii "\n") l₃ l₅ l₆ two e (omega arith)) (omega arith), omega arith)
+    pub written_more : (r : Page) → 10 ≤ n → n < 18446744073709551616 → Written (decimal (n / 10)) p q → Written (glyph (n % 10) ∷ []) q r → Written (decimal n) p r
+    written_more r h l w d = rw (← decimal_more h l) (written_next (decimal (n / 10)) (glyph (n % 10) ∷ []) p q r w d)
 
 -- numbers one by one: one more at the end; and the line's end behind them
 spaced_more : (ns : List ℕ) (n : ℕ) → spaced (ns ++ (n ∷ [])) ≡ spaced ns ++ (ascii " " ++ decimal n)
@@ -113,27 +87,24 @@ unfolding spaced numbers
 spaced_end [] = refl
 spaced_end (n ∷ ns) = rw (append_assoc (decimal n) (spaced ns) (ascii "\n"), spaced_end ns)
 
--- what a loop that writes states knows at i: the first i stand there, in 21 places each at most
-pub record Listed (states : List ℕ) (at : ℕ) (l₀ l : List ℕ) (next i : ℕ) : Type 0 where
-  pub text : Put at (spaced (take i states)) l₀ l next
-  pub long : length l ≡ length l₀
-  pub within : next ≤ at + 21 * i
+-- what a loop that writes numbers behind a word knows at i: the first i stand there, in 21 places each at most
+pub record Listed (word ns : List ℕ) (p q : Page) (i : ℕ) : Type 0 where
+  pub text : Written (word ++ spaced (take i ns)) p q
+  pub few : q.at ≤ p.at + length word + 21 * i
 
-pub listed_zero : (states : List ℕ) (at : ℕ) (l : List ℕ) → Listed states at l l at 0
-unfolding spaced
-listed_zero states at l = record { text = put_none at l; long = refl; within = omega arith }
+module _ (word ns : List ℕ) (p q : Page) where
+  pub listed_zero : Written word p q → Listed word ns p q 0
+  unfolding spaced
+  listed_zero w = record { text = rw append-nil w; few = omega (arith, w.put.next) }
 
-pub listed_more : (states : List ℕ) (at : ℕ) (l₀ l l₁ l₂ : List ℕ) (next p r n i : ℕ) → Listed states at l₀ l next i → Put next (ascii " ") l l₁ p → Put p (decimal n) l₁ l₂ r
-    → n ≡ get_or states i 0 → length states ≡ 256 → i < 256 → at + 8000 ≤ length l₀ → Listed states at l₀ l₂ r (i + 1)
-listed_more states at l₀ l l₁ l₂ next p r n i w b d e whole h room =
-    let number : Put next (ascii " " ++ decimal n) l l₂ r = put_number next p r n l l₁ l₂ b d (omega (arith, w.long, w.within)) in
-    let few : length (decimal n) ≤ 20 = decimal_le n in
-    record {
-      text = rw (add-one i, take-suc states i 0 (omega arith), spaced_more (take i states) (get_or states i 0), ← e) (put_next at next r (spaced (take i states)) (ascii " " ++ decimal n) l₀ l l₂ w.text number (omega (arith, w.text.next, w.within)));
-      long = put_length next r (ascii " " ++ decimal n) l l₂ number (omega (arith, w.long, w.within)) ∙ w.long;
-      within = omega (arith, number.next, w.within);
+  module _ (i : ℕ) (w : Listed word ns p q i) (r : Page) where
+    pub listed_more : i < length ns → (n : ℕ) → n ≡ get_or ns i 0 → Written (ascii " " ++ decimal n) q r → Listed word ns p r (i + 1)
+    listed_more h n e x = record {
+      text = rw (add-one i, take-suc ns i 0 h, spaced_more (take i ns) (get_or ns i 0), ← append_assoc word (spaced (take i ns)) (ascii " " ++ decimal (get_or ns i 0)), ← e)
+          (written_next (word ++ spaced (take i ns)) (ascii " " ++ decimal n) p q r w.text x);
+      few = omega (arith, w.few, x.put.next, decimal_le n);
     }
 
-pub listed_end : (states : List ℕ) (at : ℕ) (l₀ l : List ℕ) (next i count : ℕ) → Listed states at l₀ l next i → i ≤ count → count ≤ i → count ≤ 256
-    → Put at (spaced (take count states)) l₀ l next × (next ≤ at + 8000)
-listed_end states at l₀ l next i count w a b h = let q : i ≡ count = omega arith in (rw q at w.text, omega (arith, w.within))
+    -- and the line's end behind them all
+    pub listed_end : length ns ≤ i → Written (ascii "\n") q r → Written (word ++ numbers ns) p r
+    listed_end h x = rw (← spaced_end ns, ← append_assoc word (spaced ns) (ascii "\n")) (written_next (word ++ spaced ns) (ascii "\n") p q r (rw (take_all i ns h) at w.text) x)

@@ -1,37 +1,44 @@
 -- A session's text as its functions build it: what each call spends of the buffer, the text after so many events, and the report by what reading a file comes to.
-use Rattle.std.specs.Prelude.{◌≡◌, Bool, true, false, cond, List, [], ◌∷◌, ◌++◌, ℕ, ◌+◌, ◌-◌, ◌*◌, ◌%◌, ◌≤◌, ◌<◌, length, get_or, replicate, take, leb, eqb}
+use Rattle.std.specs.Prelude.{◌≡◌, Bool, true, false, cond, List, [], ◌∷◌, ◌++◌, ℕ, ◌+◌, ◌-◌, ◌*◌, ◌%◌, ◌≤◌, ◌<◌, length, get_or, replicate, take, leb, eqb, Result, Ok, Err}
 use Rattle.std.proofs.Math.Path.{refl, ap, subst⁻¹}
-use Rattle.std.proofs.Common.{sym, subst, ◌∙◌, append-nil, append_assoc, arith, length-append, length-take, length-drop}
-use borrow.Author.Tests.{eq-eqb, ne_eqb, le-leb, lt-leb}
+use Rattle.std.proofs.Common.{sym, append-nil, append_assoc, arith, length-append, length-take, length-drop}
+use borrow.Author.Tests.{eq-eqb, le-leb, lt-leb}
 use Rattle.laws.specs.Truth.{provided, provided_either}
 use Rattle.laws.specs.Part.{overlaid}
-use Rattle.laws.specs.Put.{Put, put_next, put_none, put_length}
-use Rattle.checks.specs.Opening.{task}
+use Rattle.laws.specs.Put.{Put}
+use Rattle.rule.specs.declared.refusals.Refusal.{Refusal}
+use Rattle.rule.specs.Refusals.{number_of}
 use Rattle.dealing.specs.declared.Decision.{Decision}
 use Rattle.dealing.specs.declared.Decision.TheVariants.{Found as FoundAt, NoPath as NoPathLeft, Deal, Stuck, Wait as WaitOn}
 use Rattle.dealing.specs.Decision.{decision}
 use Rattle.desk.specs.declared.Machine.{Machine}
 use Rattle.desk.specs.declared.Answer.{Answer}
+use Rattle.desk.specs.declared.Event.{Event}
+use Rattle.desk.specs.declared.Event.TheVariants.{Take as takes, Bring as brings}
 use Rattle.desk.specs.Machine.{hands_of, held_by, board_of}
-use Rattle.desk.specs.Reply.{when, found, refusal_of}
+use Rattle.desk.specs.Fits.{is_sound}
+use Rattle.desk.specs.KeyLaws.{opened_sound}
+use Rattle.desk.specs.declared.Reply.TheVariants.{Refused}
+use Rattle.desk.specs.Reply.{when, found}
 use Rattle.desk.specs.Take.{act, take_step, take_of}
 use Rattle.desk.specs.Bring.{bring_step, bring_of}
-use Rattle.desk.specs.Opening.{opening_of}
 use Rattle.desk.specs.Path.{path_of}
 use Rattle.desk.specs.Laws.{admitted_either, sweep_leaves, path_either}
-use Rattle.desk.specs.Calls.{Event, take as takes, bring as brings, worker_of, call, answers, after}
+use Rattle.desk.specs.Calls.{worker_of, call, answers, after}
 use Rattle.desk.specs.Morning.{event_of, events_of}
 use Rattle.desk.specs.CallLaws.{event_worker, after_more, firsts, firsts_more, firsts_all}
 use Rattle.taskfile.specs.declared.Contents.{Contents}
-use Rattle.taskfile.specs.declared.Outcome.{Outcome}
-use Rattle.taskfile.specs.declared.Outcome.TheVariants.{Read, Fault}
+use Rattle.taskfile.specs.declared.Scan.{Scan}
+use Rattle.taskfile.specs.declared.faults.Fault.{Fault}
+use Rattle.taskfile.specs.Faults.{fault_number}
 use Rattle.taskfile.specs.Scan.{scanned}
-use Rattle.taskfile.specs.Contents.{FileReading, roomy_for, read_of}
+use Rattle.taskfile.specs.Contents.{FileReading, roomy_for, reading_of, read_of}
 use Rattle.taskfile.specs.Laws.{roomy}
-use Rattle.report.specs.declared.Told.{Told}
+use Rattle.report.specs.declared.page.Page.{Page}
 use Rattle.report.specs.Line.{line, line_of, spoken}
-use Rattle.report.specs.Text.{conversation, session, task_text, outcome_text, reading, printed, room, report_length, report_buffer}
-use Rattle.report.specs.Laws.{path_text, PathFits, reserve, spare, Said}
+use Rattle.report.specs.Text.{opening_read, conversation, session, task_text, outcome_text, reading, printed, room, report_length, report_buffer}
+use Rattle.report.specs.PageLaws.{Room, Written, WrittenIn, written_none, written_next}
+use Rattle.report.specs.Laws.{NotRefused, not_refused, path_text, PathFits, reserve, spare, Said, Counts}
 
 -- what a call prints after its line was kept back before: Found comes once
 abbrev Spends : Machine → Answer → Type 0
@@ -59,22 +66,21 @@ call_spends passages estimates m (brings worker) =
 -- a path that is read into 256 places has at most so many states
 pub path_fits : (m : Machine) (passages estimates : List ℕ) → PathFits (path_of m passages estimates (replicate 256 0) 0).given.reply
 path_fits m passages estimates =
-    path_either m passages estimates (replicate 256 0) 0 (λ r. PathFits r.given.reply) (λ number other. omega arith) (λ some room. omega arith)
+    path_either m passages estimates (replicate 256 0) 0 (λ r. PathFits r.given.reply) (λ refusal other. omega arith) (λ some room. omega arith)
 
 -- a call's answer: the places that it spends, and its two lines in a row
 module _ (m : Machine) (passages estimates : List ℕ) (event : ℕ) (a : Answer) (e : a ≡ call passages estimates m (event_of event)) where
   pub answer_spends : spare a.machine + reserve a.reply ≤ spare m
   answer_spends = rw e (call_spends passages estimates m (event_of event))
 
-  pub said : (at p q : ℕ) (l₀ l₁ l₂ : List ℕ) → at + 50 + spare m ≤ length l₀
-      → Put at (line_of (event % 65536) a.reply) l₀ l₁ p × (p ≤ at + 50)
-      → Put p (when found a.reply (λ _. path_text a.machine passages estimates) []) l₁ l₂ q × (q ≤ p + reserve a.reply)
-      → Said m passages estimates event at l₀ l₂ (record { machine = a.machine; at = q })
+  pub said : (p q r : Page) → WrittenIn 50 (line_of (event % 65536) a.reply) p q
+      → WrittenIn (reserve a.reply) (when found a.reply (λ _. path_text a.machine passages estimates) []) q r
+      → Said m passages estimates event p r a.machine
   unfolding spoken
-  said at p q l₀ l₁ l₂ h x y = record {
+  said p q r x y = record {
     machine = ap (λ (b : Answer). b.machine) e;
-    text = rw (← e, event_worker event) (put_next at p q _ _ l₀ l₁ l₂ x.0 y.0 (omega (arith, x.0.next, x.1)));
-    within = omega (arith, answer_spends, x.1, y.1);
+    text = rw (← e, event_worker event) (written_next _ _ p q r x.text y.text);
+    within = omega (arith, answer_spends, x.short, y.short);
   }
 
 -- one event more is one answer more to say
@@ -86,11 +92,10 @@ session_more passages estimates m (x ∷ es) e =
     rw (session_more passages estimates (call passages estimates m x).machine es e) (sym (append_assoc (spoken passages estimates (worker_of x) (call passages estimates m x)) _ _))
 
 -- the text of the events so far, and what is left for the others
-pub record Played (passages estimates : List ℕ) (m₀ : Machine) (events l₀ l : List ℕ) (m : Machine) (at i : ℕ) : Type 0 where
+pub record Played (passages estimates : List ℕ) (m₀ : Machine) (events : List ℕ) (p q : Page) (m : Machine) (i : ℕ) : Type 0 where
   pub machine : m ≡ after passages estimates m₀ (firsts events i)
-  pub text : Put 0 (session passages estimates m₀ (firsts events i)) l₀ l at
-  pub left : at + 50 * (length events - i) + spare m ≤ length l₀
-  pub long : length l ≡ length l₀
+  pub text : Written (session passages estimates m₀ (firsts events i)) p q
+  pub left : Room (50 * (length events - i) + spare m) q
 
 spare_max : (m : Machine) → spare m ≤ 8192
 spare_max m = go (eqb m.phase 0)
@@ -99,68 +104,77 @@ spare_max m = go (eqb m.phase 0)
     go true = omega arith
     go false = omega arith
 
-module _ (passages estimates : List ℕ) (m₀ : Machine) (events l₀ : List ℕ) where
-  pub played_zero : 50 * length events + 8192 ≤ length l₀ → Played passages estimates m₀ events l₀ l₀ m₀ 0 0
+module _ (passages estimates : List ℕ) (m₀ : Machine) (events : List ℕ) (p : Page) where
+  pub played_zero : Room (50 * length events + 8192) p → Played passages estimates m₀ events p p m₀ 0
   unfolding events_of session conversation answers after
-  played_zero h = record { machine = refl; text = put_none 0 l₀; left = omega (arith, spare_max m₀); long = refl }
+  played_zero h = record { machine = refl; text = written_none p (omega arith); left = omega (arith, spare_max m₀) }
 
-  pub played_more : (l l' : List ℕ) (m : Machine) (at i : ℕ) (r : Told) → Played passages estimates m₀ events l₀ l m at i → i < length events
-      → Said m passages estimates (get_or events i 0) at l l' r → Played passages estimates m₀ events l₀ l' r.machine r.at (i + 1)
-  played_more l l' m at i r w h s =
-      let more : r.at + 50 * (length events - (i + 1)) + spare r.machine ≤ length l₀ = omega (arith, w.left, s.within) in
-      record {
-        machine = rw (firsts_more events i h, after_more passages estimates m₀ (firsts events i) (event_of (get_or events i 0)), ← w.machine) s.machine;
-        text = rw (firsts_more events i h, session_more passages estimates m₀ (firsts events i) (event_of (get_or events i 0)), ← w.machine)
-            (put_next 0 at r.at _ _ l₀ l l' w.text s.text (omega (arith, w.text.next)));
-        left = more;
-        long = put_length at r.at _ l l' s.text (omega (arith, s.text.next, w.long)) ∙ w.long;
-      }
+  module _ (q : Page) (m : Machine) (i : ℕ) (w : Played passages estimates m₀ events p q m i) where
+    pub played_more : i < length events → (event : ℕ) → event ≡ get_or events i 0 → (r : Page) (next : Machine) → Said m passages estimates event q r next → Played passages estimates m₀ events p r next (i + 1)
+    played_more h event e r next s =
+        let more : Room (50 * (length events - (i + 1)) + spare next) r = omega (arith, w.left, s.within, s.text.long) in
+        record {
+          machine = rw (firsts_more events i h, after_more passages estimates m₀ (firsts events i) (event_of (get_or events i 0)), ← w.machine, ← e) s.machine;
+          text = rw (firsts_more events i h, session_more passages estimates m₀ (firsts events i) (event_of (get_or events i 0)), ← w.machine, ← e)
+              (written_next _ _ p q r w.text s.text);
+          left = more;
+        }
 
-  pub played_end : (l : List ℕ) (m : Machine) (at i : ℕ) → Played passages estimates m₀ events l₀ l m at i → i ≤ length events → length events ≤ i → Put 0 (session passages estimates m₀ (events_of events)) l₀ l at
-  played_end l m at i w a b = rw (← firsts_all events i b) w.text
+    pub played_end : length events ≤ i → Written (session passages estimates m₀ (events_of events)) p q
+    played_end b = rw (← firsts_all events i b) w.text
 
--- a task's text: its session where opening accepts it, else the refusal alone
-module _ (c : Contents) (passages estimates events : List ℕ) (a : Answer) (e : a ≡ opening_of (task c.n c.k c.start c.goal c.pull c.excess passages estimates)) (number : ℕ) (f : number ≡ refusal_of a.reply) (l₀ l : List ℕ) (r : ℕ) where
-  pub put_refused : (number ≡ 0 → ⊥) → Put 0 (line "opening" (number ∷ [])) l₀ l r → Put 0 (task_text c passages estimates events) l₀ l r
-  unfolding task_text
-  put_refused n p = rw (← e, ← f, ne_eqb number 0 n) p
+-- a task's text: the refusal alone where opening refuses it, else the session of a machine that is sound
+module _ (c : Contents) (passages estimates : List ℕ) (a : Answer) (e : a ≡ opening_read c passages estimates) where
+  pub played_sound : NotRefused a.reply → is_sound a.machine passages estimates ≡ true
+  played_sound n = opened_sound _ a e (rw (not_refused a.reply n))
 
-  pub put_played : number ≡ 0 → Put 0 (session passages estimates a.machine (events_of events)) l₀ l r → Put 0 (task_text c passages estimates events) l₀ l r
-  unfolding task_text
-  put_played z p = rw (← e, ← f, eq-eqb number 0 z) p
+  module _ (events : List ℕ) (p q : Page) where
+    pub put_refused : (why : Refusal) → a.reply ≡ Refused why → Written (line "opening" (number_of why ∷ [])) p q → Written (task_text c passages estimates events) p q
+    unfolding task_text
+    put_refused why x w = rw (← e, x) w
+
+    pub put_played : NotRefused a.reply → Written (session passages estimates a.machine (events_of events)) p q → Written (task_text c passages estimates events) p q
+    unfolding task_text
+    put_played n w = rw (← e, not_refused a.reply n) w
 
 -- what was read of a file fits the slices that it was read into
-pub record Counts (c : Contents) (passages estimates calls : ℕ) : Type 0 where
-  pub passages_in : 3 * c.passages ≤ passages
-  pub estimates_in : c.n * c.n ≤ estimates
-  pub calls_in : c.calls ≤ calls
+abbrev Bounded : ℕ → ℕ → ℕ → Result Contents Fault → Type 0
+Bounded passages estimates calls (Ok c) = Counts c passages estimates calls
+Bounded passages estimates calls (Err fault) = Unit {0}
 
-abbrev Bounded : ℕ → ℕ → ℕ → Outcome → Type 0
-Bounded passages estimates calls (Read c) = Counts c passages estimates calls
-Bounded passages estimates calls (Fault number offset) = Unit {0}
-
-pub read_bounds : (file passages estimates calls : List ℕ) (c : Contents) → Read c ≡ (read_of file passages estimates calls).outcome → Counts c (length passages) (length estimates) (length calls)
+pub read_bounds : (file passages estimates calls : List ℕ) (c : Contents) → Ok c ≡ (read_of file passages estimates calls).outcome → Counts c (length passages) (length estimates) (length calls)
 unfolding read_of
 read_bounds file passages estimates calls c e = subst⁻¹ (Bounded (length passages) (length estimates) (length calls)) e all
   where
     P : FileReading → Type 0
     P r = Bounded (length passages) (length estimates) (length calls) r.outcome
 
+    of_scan : (s : Result Scan Fault) → P (reading_of s file passages estimates calls)
+    of_scan (Err fault) = tt
+    of_scan (Ok s) =
+        provided_either P (roomy_for s (length passages) (length estimates) (length calls)) _ _ tt
+        (λ r.
+        let f = roomy s (length passages) (length estimates) (length calls) r in
+        record { passages_in = f.passages_in; estimates_in = f.estimates_in; calls_in = f.calls_in })
+
     all : P (read_of file passages estimates calls)
     all =
-        provided_either P (leb (length file) 65536) _ _ tt
-        (λ _. provided_either P (eqb (scanned file).status 1) _ _ tt
-        (λ _. provided_either P (roomy_for (scanned file) (length passages) (length estimates) (length calls)) _ _ tt
-        (λ r.
-        let f = roomy (scanned file) (length passages) (length estimates) (length calls) r in
-        record { passages_in = f.passages_in; estimates_in = f.estimates_in; calls_in = f.calls_in })))
+        provided_either P (leb (length file) 65536) _ _ tt (λ _. of_scan (scanned file))
 
-pub reading_bounds : (file : List ℕ) (c : Contents) → Read c ≡ (reading file).outcome → Counts c 1536 4096 11008
+pub reading_bounds : (file : List ℕ) (c : Contents) → Ok c ≡ (reading file).outcome → Counts c 1536 4096 11008
 reading_bounds file c e = read_bounds file (replicate 1536 0) (replicate 4096 0) (replicate 11008 0) c e
 
-printed_as : (file : List ℕ) (o : Outcome) → o ≡ (reading file).outcome → outcome_text (reading file) o ≡ printed file
+-- what is printed, by what reading the file comes to: its fault, or its task
+printed_as : (file : List ℕ) (o : Result Contents Fault) → o ≡ (reading file).outcome → outcome_text (reading file) o ≡ printed file
 unfolding printed
 printed_as file o e = ap (outcome_text (reading file)) e
+
+pub printed_fault : (file : List ℕ) (fault : Fault) → Err fault ≡ (reading file).outcome → line "file" (fault_number fault.kind ∷ fault.at ∷ []) ≡ printed file
+printed_fault file fault e = printed_as file (Err fault) e
+
+pub printed_task : (file : List ℕ) (c : Contents) (passages estimates calls : List ℕ) → Ok c ≡ (reading file).outcome → passages ≡ (reading file).passages → estimates ≡ (reading file).estimates → calls ≡ (reading file).calls
+    → task_text c (take (3 * c.passages) passages) (take (c.n * c.n) estimates) (take c.calls calls) ≡ printed file
+printed_task file c passages estimates calls e x y z = rw (x, y, z) (printed_as file (Ok c) e)
 
 -- a report: nothing where the buffer is too short, else the printed text at its front
 module _ (file out : List ℕ) where
@@ -168,18 +182,9 @@ module _ (file out : List ℕ) where
   unfolding report_length report_buffer
   report_short h = rw (lt-leb room (length out) h) (refl, refl)
 
-  report_put : room ≤ length out → (l : List ℕ) (r : ℕ) → Put 0 (printed file) out l r → (r ≡ report_length file out) × (l ≡ report_buffer file out)
+  pub report_put : room ≤ length out → (l : List ℕ) (r : ℕ) → Put 0 (printed file) out l r → (r ≡ report_length file out) × (l ≡ report_buffer file out)
   unfolding report_length report_buffer
   report_put h l r p = rw (le-leb room (length out) h) (omega (arith, p.next), p.done)
-
-  module _ (h : room ≤ length out) (l : List ℕ) (r : ℕ) where
-    pub report_fault : (number offset : ℕ) → Fault number offset ≡ (reading file).outcome → Put 0 (line "file" (number ∷ offset ∷ [])) out l r → (r ≡ report_length file out) × (l ≡ report_buffer file out)
-    report_fault number offset e p = report_put h l r (subst (λ (xs : List ℕ). Put 0 xs out l r) (printed_as file (Fault number offset) e) p)
-
-    pub report_task : (c : Contents) (passages estimates calls : List ℕ) → Read c ≡ (reading file).outcome → passages ≡ (reading file).passages → estimates ≡ (reading file).estimates → calls ≡ (reading file).calls
-        → Put 0 (task_text c (take (3 * c.passages) passages) (take (c.n * c.n) estimates) (take c.calls calls)) out l r → (r ≡ report_length file out) × (l ≡ report_buffer file out)
-    report_task c passages estimates calls e x y z p =
-        report_put h l r (subst (λ (xs : List ℕ). Put 0 xs out l r) (rw (x, y, z) (printed_as file (Read c) e)) p)
 
 -- what is written fits the buffer, since the buffer keeps its length
 pub report_within : (file out : List ℕ) → length (report_buffer file out) ≡ length out → report_length file out ≤ length out

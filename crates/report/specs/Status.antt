@@ -1,21 +1,25 @@
--- What a file comes to, as a number beside its text: 0 where its calls are run, 1 for "a file fault", 2 for "a refused opening".
-use Rattle.std.specs.Prelude.{cond, List, ℕ, ◌*◌, take, eqb}
-use Rattle.checks.specs.Opening.{task}
-use Rattle.desk.specs.Reply.{refusal_of}
-use Rattle.desk.specs.Opening.{opening_of}
+-- What a file comes to, beside its text: its calls are run, or it is "a file fault", or "a refused opening". Each has a number, 0, 1 and 2.
+use Rattle.std.specs.Prelude.{List, ℕ, ◌*◌, take, Result, Ok, Err}
+use Rattle.desk.specs.Reply.{when, refusal}
 use Rattle.taskfile.specs.declared.Contents.{Contents}
-use Rattle.taskfile.specs.declared.Outcome.{Outcome}
-use Rattle.taskfile.specs.declared.Outcome.TheVariants.{Read, Fault}
+use Rattle.taskfile.specs.declared.faults.Fault.{Fault}
 use Rattle.taskfile.specs.Contents.{FileReading}
-use Rattle.report.specs.Text.{reading}
+use Rattle.report.specs.declared.status.Ending.{Ending}
+use Rattle.report.specs.declared.status.Ending.TheVariants.{Run, FileFault, OpeningRefused}
+use Rattle.report.specs.Text.{opening_read, reading}
 
--- the number of opening's refusal of a task that was read; 0 where it opens
-unfoldable pub refusal_at : Contents → List ℕ → List ℕ → ℕ
-refusal_at c passages estimates = refusal_of (opening_of (task c.n c.k c.start c.goal c.pull c.excess passages estimates)).reply
+abbrev pub outcome_ending : FileReading → Result Contents Fault → Ending
+outcome_ending r (Ok c) = when refusal (opening_read c (take (3 * c.passages) r.passages) (take (c.n * c.n) r.estimates)).reply (λ _. OpeningRefused) Run
+outcome_ending r (Err fault) = FileFault
 
-abbrev pub outcome_status : FileReading → Outcome → ℕ
-outcome_status r (Read c) = cond (eqb (refusal_at c (take (3 * c.passages) r.passages) (take (c.n * c.n) r.estimates)) 0) 0 2
-outcome_status r (Fault number offset) = 1
+unfoldable pub ending_of : List ℕ → Ending
+ending_of file = let r = reading file in outcome_ending r r.outcome
+
+-- the number of each
+abbrev pub status_with : Ending → ℕ
+status_with Run = 0
+status_with FileFault = 1
+status_with OpeningRefused = 2
 
 unfoldable pub status_of : List ℕ → ℕ
-status_of file = let r = reading file in outcome_status r r.outcome
+status_of file = status_with (ending_of file)

@@ -1,17 +1,18 @@
 -- What is printed for a whole file: a line for each call, or only the fault, or only the refused opening.
-use Rattle.std.specs.Prelude.{cond, List, [], ◌∷◌, ◌++◌, ℕ, ◌*◌, length, replicate, take, leb, eqb}
+use Rattle.std.specs.Prelude.{List, [], ◌∷◌, ◌++◌, ℕ, ◌*◌, length, replicate, take, leb, Result, Ok, Err}
 use Rattle.laws.specs.Truth.{provided}
 use Rattle.laws.specs.Part.{overlaid}
 use Rattle.checks.specs.Opening.{task}
 use Rattle.desk.specs.declared.Machine.{Machine}
-use Rattle.desk.specs.Reply.{refusal_of}
+use Rattle.desk.specs.Reply.{when, refusal}
 use Rattle.desk.specs.Opening.{opening_of}
 use Rattle.desk.specs.declared.Answer.{Answer}
-use Rattle.desk.specs.Calls.{Event, worker_of, answers}
+use Rattle.desk.specs.declared.Event.{Event}
+use Rattle.desk.specs.Calls.{worker_of, answers}
 use Rattle.desk.specs.Morning.{events_of}
 use Rattle.taskfile.specs.declared.Contents.{Contents}
-use Rattle.taskfile.specs.declared.Outcome.{Outcome}
-use Rattle.taskfile.specs.declared.Outcome.TheVariants.{Read, Fault}
+use Rattle.taskfile.specs.declared.faults.Fault.{Fault}
+use Rattle.taskfile.specs.Faults.{fault_number}
 use Rattle.taskfile.specs.Contents.{FileReading, read_of}
 use Rattle.report.specs.Line.{line, spoken}
 
@@ -24,16 +25,20 @@ conversation passages estimates (e ∷ es) (a ∷ given) = spoken passages estim
 unfoldable pub session : List ℕ → List ℕ → Machine → List Event → List ℕ
 session passages estimates m events = conversation passages estimates events (answers passages estimates m events)
 
+-- the opening of a task that was read
+abbrev pub opening_read : Contents → List ℕ → List ℕ → Answer
+opening_read c passages estimates = opening_of (task c.n c.k c.start c.goal c.pull c.excess passages estimates)
+
 -- "a refused opening only `opening`, number"
 unfoldable pub task_text : Contents → List ℕ → List ℕ → List ℕ → List ℕ
 task_text c passages estimates events =
-    let a = opening_of (task c.n c.k c.start c.goal c.pull c.excess passages estimates) in
-    cond (eqb (refusal_of a.reply) 0) (session passages estimates a.machine (events_of events)) (line "opening" (refusal_of a.reply ∷ []))
+    let a = opening_read c passages estimates in
+    when refusal a.reply (λ number. line "opening" (number ∷ [])) (session passages estimates a.machine (events_of events))
 
 -- "A file fault prints only `file`, number, offset"
-abbrev pub outcome_text : FileReading → Outcome → List ℕ
-outcome_text r (Read c) = task_text c (take (3 * c.passages) r.passages) (take (c.n * c.n) r.estimates) (take c.calls r.calls)
-outcome_text r (Fault number offset) = line "file" (number ∷ offset ∷ [])
+abbrev pub outcome_text : FileReading → Result Contents Fault → List ℕ
+outcome_text r (Ok c) = task_text c (take (3 * c.passages) r.passages) (take (c.n * c.n) r.estimates) (take c.calls r.calls)
+outcome_text r (Err fault) = line "file" (fault_number fault.kind ∷ fault.at ∷ [])
 
 -- a file read into slices that are long enough for every file: 512 passages, 64 × 64 estimates, and 11,008 calls. A file of 65,536 bytes holds 10,918 calls at most: 16 bytes are its head, 10 or more its rows, 6 each call
 abbrev pub reading : List ℕ → FileReading

@@ -1,18 +1,18 @@
 // What `deskrun` prints: one function from a file's bytes to the text, over a reader, a desk and a line maker.
 #![tactic(auto)]
 
-mod decimal;
 mod line;
+mod page;
 mod session;
 mod status;
 
-use desk::Machine;
-pub use session::report;
-pub use status::status_of;
+pub use session::{ROOM, report};
+pub use status::{Ending, ending_of, status_of};
 
-// A session that has come so far: the machine, and the next place of the text.
-#[derive(Clone, Copy)]
-pub struct Told {
-    pub machine: Machine,
-    pub at: usize,
-}
+// Room for what any file holds: 512 passages of three numbers, 64 × 64 estimates, and 11,008 calls. A file of 65,536 bytes
+// holds 10,918 calls at most.
+const PASSAGES: usize = 3 * 512;
+
+const ESTIMATES: usize = 64 * 64;
+
+const EVENTS: usize = 11008;

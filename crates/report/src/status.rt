@@ -1,40 +1,48 @@
-// What a file comes to, as a number: the status that `deskrun` ends with where all of its text was written.
+// What a file comes to: `deskrun` ends with its number for a status where all of its text was written.
 ghost use Rattle.std.specs.Prelude.{◌≡◌};
-ghost use Rattle.report.specs.Status.{refusal_at, status_of};
+ghost use Rattle.report.specs.Status.{status_with, ending_of, status_of};
 
-use super::line;
-use desk::Machine;
-use taskfile::{Contents, Outcome};
+use super::session::opened;
+use super::{ESTIMATES, EVENTS, PASSAGES};
+use desk::Reply;
 
-// The number of opening's refusal of a task that was read; 0 where it opens.
-pub fn refusal_at(c: Contents, passages: &[u32], estimates: &[u32]) -> u8
-    ensures { result ≡ refusal_at c passages.now estimates.now }
-{
-    let answer = Machine::opening(
-        c.n, c.k, c.start, c.goal, c.pull, c.excess, passages, estimates,
-    );
-    let reply = answer.reply;
-    line::refusal_of(reply)
+// The file's calls are run, or it has a fault, or its task's opening is refused.
+#[derive(Clone, Copy, Debug, PartialEq, Eq)]
+pub enum Ending {
+    Run = 0,
+    FileFault = 1,
+    OpeningRefused = 2,
 }
 
-// 0 where the file's calls are run, 1 for a file fault, 2 for a refused opening.
+impl From<Ending> for u8 {
+    ghost from_gives = { λ ending status. status ≡ status_with ending };
+
+    fn from(ending: Ending) -> u8 {
+        ending as u8
+    }
+}
+
+// By what reading the file and opening its task come to. The arrays stand here as in `put_file`: a function that both shared would
+// have to copy them out.
+pub fn ending_of(file: &[u8]) -> Ending
+    ensures { result ≡ ending_of file.now }
+{
+    let mut passages = [0u32; PASSAGES];
+    let mut estimates = [0u32; ESTIMATES];
+    let mut events = [0u32; EVENTS];
+    match taskfile::read(file, &mut passages, &mut estimates, &mut events) {
+        Ok(c) => match opened(c, &passages, &estimates).reply {
+            Reply::Refused(_) => Ending::OpeningRefused,
+            _ => Ending::Run,
+        },
+        Err(_) => Ending::FileFault,
+    }
+}
+
+// The same as a number.
+#[tactic(auto, unfolding(crate::specs::Status::status_of))]
 pub fn status_of(file: &[u8]) -> u8
     ensures { result ≡ status_of file.now }
 {
-    let mut passages = [0u32; 1536];
-    let mut estimates = [0u32; 4096];
-    let mut events = [0u32; 11008];
-    let outcome = taskfile::read(file, &mut passages, &mut estimates, &mut events);
-    match outcome {
-        Outcome::Fault(_, _) => 1,
-        Outcome::Read(c) => {
-            let p = 3 * c.passages;
-            let e = c.n * c.n;
-            if refusal_at(c, &passages[..p], &estimates[..e]) == 0 {
-                0
-            } else {
-                2
-            }
-        }
-    }
+    u8::from(ending_of(file))
 }

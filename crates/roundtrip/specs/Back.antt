@@ -1,30 +1,31 @@
 -- Read back: a file that says a task and events is scanned without fault, and what is read from it is that task and those events.
 -- Assumes nothing.
-use Rattle.std.specs.Prelude.{◌≡◌, refl, List, ℕ, ◌+◌, ◌/◌, ◌<◌, length, get_or}
+use Rattle.std.specs.Prelude.{◌≡◌, refl, List, ℕ, ◌+◌, ◌/◌, ◌<◌, length, get_or, Ok}
 use Rattle.std.proofs.Common.{sym, ◌∙◌, add-zero, arith}
 use Rattle.taskfile.specs.declared.Head.{Head}
 use Rattle.taskfile.specs.declared.Scan.{Scan}
 use Rattle.taskfile.specs.Bytes.{byte, number_at}
 use Rattle.taskfile.specs.BytesLaws.{byte_is}
 use Rattle.taskfile.specs.Records.{worker_width, event_of, passage_place, row_place, call_place}
-use Rattle.taskfile.specs.Scan.{all_read, scanned}
+use Rattle.taskfile.specs.Scan.{scanned}
 use Rattle.taskfile.specs.Contents.{contents, file_passages, file_estimates, file_calls}
 use Rattle.taskfile.specs.CarriedLaws.{Carried}
 use Rattle.roundtrip.specs.BothWays.{head_of}
 use Rattle.roundtrip.specs.Standing.{stands_same}
 use Rattle.roundtrip.specs.Told.{Told}
-use Rattle.roundtrip.specs.Scanning.{Laid, Whole, whole_scanned}
+use Rattle.roundtrip.specs.Scanning.{Laid, Whole, counted, whole_scanned}
 use Rattle.roundtrip.specs.Slices.{passages_length, passages_stand, estimates_length, estimates_stand, calls_length, calls_stand}
 
--- what a scan finds is this task and these events
-pub record Found (file : List ℕ) (s : Scan) (t : Head) (passages estimates calls : List ℕ) : Type 0 where
-  pub status : s.status ≡ all_read
-  pub many : s.passages ≡ length passages / 3
-  pub more : s.calls ≡ length calls
-  pub head : t ≡ head_of (contents file s)
-  pub passages_are : passages ≡ file_passages file s.passages
-  pub estimates_are : estimates ≡ file_estimates file s.passages s.n
-  pub calls_are : calls ≡ file_calls file s.passages s.n s.calls
+-- a scan of the file ends well, and what it finds is this task and these events
+pub record Found (file : List ℕ) (t : Head) (passages estimates calls : List ℕ) : Type 0 where
+  pub scan : Scan
+  pub ends : Ok scan ≡ scanned file
+  pub many : scan.passages ≡ length passages / 3
+  pub more : scan.calls ≡ length calls
+  pub head : t ≡ head_of (contents file scan)
+  pub passages_are : passages ≡ file_passages file scan.passages
+  pub estimates_are : estimates ≡ file_estimates file scan.passages scan.n
+  pub calls_are : calls ≡ file_calls file scan.passages scan.n scan.calls
 
 module _ (file : List ℕ) (t : Head) (passages estimates calls : List ℕ) (carried : Carried t passages estimates calls)
     (told : Told file t passages estimates calls (length passages / 3) (length calls)) where
@@ -47,12 +48,12 @@ module _ (file : List ℕ) (t : Head) (passages estimates calls : List ℕ) (car
       let place = call_place (length passages / 3) t.n i in
       omega (arith, (told.call i l).1.1.0, (told.call i l).1.1.1.0, byte_is file (place + 4))
 
-  pub told_found : call_place (length passages / 3) t.n (length calls) ≡ length file → Found file (scanned file) t passages estimates calls
+  pub told_found : call_place (length passages / 3) t.n (length calls) ≡ length file → Found file t passages estimates calls
   told_found e =
       let (n, (k, (start, (goal, (pull, (excess, end)))))) = told.head.1.1 in
-      rw (whole_scanned file t.n (length passages / 3) (length calls) (told_whole e))
-      (record {
-        status = refl;
+      record {
+        scan = counted (call_place (length passages / 3) t.n (length calls)) t.n (length passages / 3) t.n (length calls);
+        ends = whole_scanned file t.n (length passages / 3) (length calls) (told_whole e);
         many = refl;
         more = refl;
         head = rw (k, start, goal, pull, excess);
@@ -61,4 +62,4 @@ module _ (file : List ℕ) (t : Head) (passages estimates calls : List ℕ) (car
             (passages_length file _ ∙ sym carried.thirds));
         estimates_are = sym (stands_same (estimates_stand file _ t.n estimates (λ r c l h. sym (told.estimate r c l h))) (estimates_length file _ t.n ∙ sym carried.square));
         calls_are = sym (stands_same (calls_stand file _ t.n _ calls told_event) (calls_length file _ t.n _));
-      })
+      }

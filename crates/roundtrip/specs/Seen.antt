@@ -1,17 +1,17 @@
 -- What a scan has seen so far is in place, so a scan that ended well leaves a whole file.
 -- Assumes nothing.
-use Rattle.std.specs.Prelude.{◌≡◌, refl, ◌&&◌, List, ℕ, zero, suc, ◌+◌, ◌-◌, ◌<◌, length, ltb}
+use Rattle.std.specs.Prelude.{◌≡◌, ◌&&◌, List, ℕ, ◌+◌, ◌-◌, ◌<◌, length, ltb, Result, Ok, IfOk}
 use Rattle.std.proofs.Common.{arith}
 use Rattle.std.proofs.Math.Dec.{leb, eqb}
 use borrow.Author.Tests.{leb-true, ltb-true, eqb-true}
-use Rattle.laws.specs.Truth.{and_left, and_right, cond_cases, cond_either, provided_either}
-use Rattle.laws.specs.Fold.{fold}
+use Rattle.laws.specs.Truth.{and_left, and_right, cond_cases}
 use Rattle.laws.specs.Least.{below_more}
 use Rattle.taskfile.specs.declared.Scan.{Scan}
+use Rattle.taskfile.specs.declared.faults.FaultKind.{FaultKind}
 use Rattle.taskfile.specs.Bytes.{byte, word}
 use Rattle.taskfile.specs.Records.{head_kind, head_length, passage_kind, passage_length, row_kind, row_length, call_kind, call_length, most_states, most_passages, passage_place, row_place, call_place}
-use Rattle.taskfile.specs.Scan.{all_read, payload_length, kind, begun, stopped, complete, head_at, passage_at, row_at, call_at, record_at, advance, scanned}
-use Rattle.taskfile.specs.Laws.{Placed, placed, scanned_is}
+use Rattle.taskfile.specs.Scan.{payload_length, kind, begun, complete, head_at, passage_at, row_at, call_at, record_at, advance, scanned}
+use Rattle.taskfile.specs.Laws.{Placed, passed, scan_kept, scanned_is}
 use Rattle.roundtrip.specs.Scanning.{Laid, Whole}
 
 -- what a scan has counted is in place, and there is no call before the last row
@@ -26,14 +26,11 @@ seen_begun file = record {
 }
 
 module _ (file : List ℕ) (s : Scan) (p : Placed file s) (q : Seen file s) where
-  seen_stopped : (status : ℕ) → Seen file (stopped s status)
-  seen_stopped status = record { laid = q.laid; early = q.early }
-
-  seen_head : kind file s.at ≡ head_kind → Seen file (head_at file s)
+  seen_head : kind file s.at ≡ head_kind → IfOk (head_at file s) (Seen file)
   unfolding head_at
   seen_head k =
-      provided_either (Seen file) (eqb s.n 0 && eqb (payload_length file s.at) head_length) _ _ (seen_stopped _)
-      (λ t. provided_either (Seen file) (leb 1 (word file (s.at + 4)) && leb (word file (s.at + 4)) most_states) _ _ (seen_stopped _)
+      passed (Seen file) (eqb s.n 0 && eqb (payload_length file s.at) head_length) _ _
+      (λ t. passed (Seen file) (leb 1 (word file (s.at + 4)) && leb (word file (s.at + 4)) most_states) _ _
       (λ u.
       let ((start, none), (unread, uncalled)) = p.headless (eqb-true s.n 0 (and_left _ _ t)) in
       let size = eqb-true (payload_length file s.at) head_length (and_right (eqb s.n 0) _ t) in
@@ -47,11 +44,11 @@ module _ (file : List ℕ) (s : Scan) (p : Placed file s) (q : Seen file s) wher
         early = λ l. uncalled;
       }))
 
-  seen_passage : kind file s.at ≡ passage_kind → Seen file (passage_at file s)
+  seen_passage : kind file s.at ≡ passage_kind → IfOk (passage_at file s) (Seen file)
   unfolding passage_at
   seen_passage k =
-      provided_either (Seen file) (leb 1 s.n && (eqb s.rows 0 && eqb (payload_length file s.at) passage_length)) _ _ (seen_stopped _)
-      (λ t. provided_either (Seen file) (ltb s.passages most_passages) _ _ (seen_stopped _)
+      passed (Seen file) (leb 1 s.n && (eqb s.rows 0 && eqb (payload_length file s.at) passage_length)) _ _
+      (λ t. passed (Seen file) (ltb s.passages most_passages) _ _
       (λ u.
       let some = leb-true 1 s.n (and_left _ _ t) in
       let rest = and_right (leb 1 s.n) _ t in
@@ -69,10 +66,10 @@ module _ (file : List ℕ) (s : Scan) (p : Placed file s) (q : Seen file s) wher
         early = q.early;
       }))
 
-  seen_row : kind file s.at ≡ row_kind → Seen file (row_at file s)
+  seen_row : kind file s.at ≡ row_kind → IfOk (row_at file s) (Seen file)
   unfolding row_at
   seen_row k =
-      provided_either (Seen file) (ltb s.rows s.n && (eqb (payload_length file s.at) (row_length s.n) && eqb (word file (s.at + 4)) s.rows)) _ _ (seen_stopped _)
+      passed (Seen file) (ltb s.rows s.n && (eqb (payload_length file s.at) (row_length s.n) && eqb (word file (s.at + 4)) s.rows)) _ _
       (λ t.
       let fewer = ltb-true s.rows s.n (and_left _ _ t) in
       let rest = and_right (ltb s.rows s.n) _ t in
@@ -90,10 +87,10 @@ module _ (file : List ℕ) (s : Scan) (p : Placed file s) (q : Seen file s) wher
         early = λ l. uncalled;
       })
 
-  seen_call : kind file s.at ≡ call_kind → Seen file (call_at file s)
+  seen_call : kind file s.at ≡ call_kind → IfOk (call_at file s) (Seen file)
   unfolding call_at
   seen_call k =
-      provided_either (Seen file) (complete s && (eqb (payload_length file s.at) call_length && leb (byte file (s.at + 4)) 1)) _ _ (seen_stopped _)
+      passed (Seen file) (complete s && (eqb (payload_length file s.at) call_length && leb (byte file (s.at + 4)) 1)) _ _
       (λ t.
       let whole = and_left (complete s) _ t in
       let rest = and_right (complete s) _ t in
@@ -112,29 +109,20 @@ module _ (file : List ℕ) (s : Scan) (p : Placed file s) (q : Seen file s) wher
         early = λ l. absurd (omega arith);
       })
 
-  seen_advance : Seen file (advance file s)
+  seen_advance : IfOk (advance file s) (Seen file)
   unfolding advance record_at
   seen_advance =
-      cond_either (Seen file) (eqb s.status 0) _ _
-      (cond_either (Seen file) (leb (length file) s.at) _ _ (seen_stopped _)
-      (provided_either (Seen file) (leb 4 (length file - s.at)) _ _ (seen_stopped _)
-      (λ _. provided_either (Seen file) (leb (payload_length file s.at) (length file - s.at - 4)) _ _ (seen_stopped _)
-      (λ _. cond_cases (Seen file) (eqb (kind file s.at) head_kind) _ _ (λ k. seen_head (eqb-true _ _ k))
-      (λ _. cond_cases (Seen file) (eqb (kind file s.at) passage_kind) _ _ (λ k. seen_passage (eqb-true _ _ k))
-      (λ _. cond_cases (Seen file) (eqb (kind file s.at) row_kind) _ _ (λ k. seen_row (eqb-true _ _ k))
-      (λ _. cond_cases (Seen file) (eqb (kind file s.at) call_kind) _ _ (λ k. seen_call (eqb-true _ _ k)) (λ _. seen_stopped _))))))))
-      q
+      let P = λ (r : Result Scan FaultKind). IfOk r (Seen file) in
+      passed (Seen file) (leb 4 (length file - s.at)) _ _
+      (λ _. passed (Seen file) (leb (payload_length file s.at) (length file - s.at - 4)) _ _
+      (λ _. cond_cases P (eqb (kind file s.at) head_kind) _ _ (λ k. seen_head (eqb-true _ _ k))
+      (λ _. cond_cases P (eqb (kind file s.at) passage_kind) _ _ (λ k. seen_passage (eqb-true _ _ k))
+      (λ _. cond_cases P (eqb (kind file s.at) row_kind) _ _ (λ k. seen_row (eqb-true _ _ k))
+      (λ _. cond_cases P (eqb (kind file s.at) call_kind) _ _ (λ k. seen_call (eqb-true _ _ k)) (λ _. tt))))))
 
-seen_after : (file : List ℕ) (i : ℕ) → Seen file (fold (λ _ s. advance file s) begun i)
-unfolding fold
-seen_after file zero = seen_begun file
-seen_after file (suc i) = seen_advance file _ (placed file _ i refl) (seen_after file i)
-
-pub scanned_whole : (file : List ℕ) (s : Scan) → s ≡ scanned file → s.status ≡ all_read → Whole file s.n s.passages s.calls
-unfolding scanned
-scanned_whole file s e d =
-    let seen : Seen file s = rw e (seen_after file (length file + 1)) in
-    let whole = ((placed file s (length file + 1) e).ended d).0 in
-    let full = eqb-true s.rows s.n (and_right (leb 1 s.n) _ whole) in
-    let kept = scanned_is file s e d in
-    record { some = leb-true 1 s.n (and_left _ _ whole); small = kept.small; few = kept.few; filled = kept.filled; laid = rw full at seen.laid }
+pub scanned_whole : (file : List ℕ) (s : Scan) → Ok s ≡ scanned file → Whole file s.n s.passages s.calls
+scanned_whole file s e =
+    let seen = scan_kept file (Seen file) (seen_begun file) (seen_advance file) s e in
+    let ended = scanned_is file s e in
+    let full = eqb-true s.rows s.n (and_right (leb 1 s.n) _ ended.whole) in
+    record { some = leb-true 1 s.n (and_left _ _ ended.whole); small = ended.small; few = ended.few; filled = ended.filled; laid = rw full at seen.laid }

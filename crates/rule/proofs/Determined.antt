@@ -11,9 +11,6 @@ independent = (λ κs a. tt, λ κs a x y p q i. (same p q i, x.1))
 pub is_live : Answers c.is_live.ended f.is_live.Reads.Asked f.is_live.Reads.Learnt
 is_live = (λ κs a. tt, λ κs a x y p q i. (same p q i, x.1))
 
-pub holds_back : Answers c.holds_back.ended f.holds_back.Reads.Asked f.holds_back.Reads.Learnt
-holds_back = (λ κs a. tt, λ κs a x y p q i. (same p q i, x.1))
-
 pub key : Answers c.key.ended f.key.Reads.Asked f.key.Reads.Learnt
 key = (λ κs a. tt, λ κs a x y p q i. (same p q i, x.1))
 
@@ -23,20 +20,17 @@ lowers = (λ κs a. tt, λ κs a x y p q i. (same p q i, x.1))
 pub adds_up : Answers c.adds_up.ended f.adds_up.Reads.Asked f.adds_up.Reads.Learnt
 adds_up = (λ κs a. tt, λ κs a x y p q i. (same p q i, x.1))
 
-pub estimate : Fixes c.estimate.ended f.estimate.Reads.Learnt
-estimate κs a x y p q i = (same p q i, x.1)
+-- passage.rt
+pub read : Fixes c.passage.Passage.read.ended f.passage.Passage.read.Reads.Learnt
+read κs a x y p q i = (record { near = same p.0 q.0 i; far = same p.1.0 q.1.0 i; cost = same p.1.1 q.1.1 i }, x.1)
 
-pub near : Fixes c.near.ended f.near.Reads.Learnt
-near κs a x y p q i = (same p q i, x.1)
+pub passage_clear : Answers c.passage.Passage.is_clear.ended f.passage.Passage.is_clear.Reads.Asked f.passage.Passage.is_clear.Reads.Learnt
+passage_clear = (λ κs a. tt, λ κs a x y p q i. (same p q i, x.1))
 
-pub far : Fixes c.far.ended f.far.Reads.Learnt
-far κs a x y p q i = (same p q i, x.1)
+-- refusals.rt
+pub number : Answers c.refusals.U8FromRefusal.from.ended f.refusals.U8FromRefusal.from.Reads.Asked f.refusals.U8FromRefusal.from.Reads.Learnt
+number = (λ κs a. tt, λ κs a x y p q i. (same p q i, x.1))
 
-pub cost : Fixes c.cost.ended f.cost.Reads.Learnt
-cost κs a x y p q i = (same p q i, x.1)
-
-pub is_clear : Fixes c.is_clear.ended f.is_clear.Reads.Learnt
-is_clear κs a x y p q i = (same p q i, x.1)
-
-pub wide : Answers c.wide.ended f.wide.Reads.Asked f.wide.Reads.Learnt
-wide = (λ κs a. tt, λ κs a x y p q i. (same p q i, x.1))
+-- table.rt
+pub between : Fixes c.table.Table.between.ended f.table.Table.between.Reads.Learnt
+between κs a x y p q i = (same p q i, x.1)

@@ -1,34 +1,33 @@
-// The numbers that the desk's calls refuse with, each named once.
-pub const BAD_SIZES: u8 = 1;
+// Why the desk refuses a call, and the number that documents 01 and 02 give the refusal.
+ghost use Rattle.std.specs.Prelude.{◌≡◌};
+ghost use Rattle.rule.specs.Refusals.{number_of};
 
-pub const BAD_ENDS: u8 = 2;
+// The refusals of the desk's calls, each with its number.
+#[derive(Clone, Copy, Debug, PartialEq, Eq)]
+pub enum Refusal {
+    BadSizes = 1,
+    BadEnds = 2,
+    BadWeights = 3,
+    BadPassage = 4,
+    BadEstimate = 5,
+    AbovePassage = 6,
+    AboveDetour = 7,
+    Unfit = 8,
+    NoWorker = 9,
+    NotSearching = 10,
+    WrongHands = 11,
+    NothingOut = 12,
+    NotFound = 13,
+    BrokenTrail = 14,
+    ShortBuffer = 15,
+    ShortRow = 16,
+    NoEvent = 18,
+}
 
-pub const BAD_WEIGHTS: u8 = 3;
+impl From<Refusal> for u8 {
+    ghost from_gives = { λ refusal number. number ≡ number_of refusal };
 
-pub const BAD_PASSAGE: u8 = 4;
-
-pub const BAD_ESTIMATE: u8 = 5;
-
-pub const ABOVE_PASSAGE: u8 = 6;
-
-pub const ABOVE_DETOUR: u8 = 7;
-
-pub const UNFIT: u8 = 8;
-
-pub const NO_WORKER: u8 = 9;
-
-pub const NOT_SEARCHING: u8 = 10;
-
-pub const WRONG_HANDS: u8 = 11;
-
-pub const NOTHING_OUT: u8 = 12;
-
-pub const NOT_FOUND: u8 = 13;
-
-pub const BROKEN_TRAIL: u8 = 14;
-
-pub const SHORT_BUFFER: u8 = 15;
-
-pub const SHORT_ROW: u8 = 16;
-
-pub const NO_EVENT: u8 = 18;
+    fn from(refusal: Refusal) -> u8 {
+        refusal as u8
+    }
+}

@@ -1,6 +1,6 @@
 -- "Task file and deskrun", order 6's writing and order 3's maps: file faults with their offsets, what is read and printed, what is written and what can't be, and the refusals of a map and what is drawn.
-use Rattle.std.specs.Prelude.{◌≡◌, refl, true, List, [], ◌∷◌, ◌++◌, map, ℕ, ◌+◌, ◌*◌, ◌≤◌, length, replicate, take as front, drop, leb}
-use Rattle.std.proofs.Common.{◌∙◌}
+use Rattle.std.specs.Prelude.{◌≡◌, refl, true, List, [], ◌∷◌, ◌++◌, map, ℕ, ◌+◌, ◌*◌, ◌≤◌, length, replicate, take as front, drop, leb, Result, Ok, Err}
+use Rattle.std.proofs.Common.{ap, ◌∙◌}
 use Prim.Native.String.{String}
 use native.Mathlib.Omega.{arith}
 use Rattle.std.proofs.Math.ListN.{length-replicate}
@@ -8,10 +8,12 @@ use Rattle.std.proofs.lemmas.List.{get_or-replicate}
 use borrow.Author.Tests.{lt-leb}
 use Rattle.laws.specs.Truth.{provided}
 use Rattle.taskfile.specs.declared.Head.{Head}
-use Rattle.taskfile.specs.declared.Outcome.{Outcome}
-use Rattle.taskfile.specs.declared.Outcome.TheVariants.{Read, Fault}
-use Rattle.taskfile.specs.declared.Filed.{Filed}
-use Rattle.taskfile.specs.declared.Filed.TheVariants.{Written, Refused as Unwritten}
+use Rattle.taskfile.specs.declared.Contents.{Contents}
+use Rattle.taskfile.specs.declared.Scan.{Scan}
+use Rattle.taskfile.specs.declared.faults.Fault.{Fault}
+use Rattle.taskfile.specs.declared.faults.Unwritable.{Unwritable}
+use Rattle.taskfile.specs.declared.faults.Unwritable.TheVariants.{FileTooLarge, ShortBuffer}
+use Rattle.taskfile.specs.Faults.{fault_number, unwritable_number}
 use Rattle.taskfile.specs.Bytes.{beyond}
 use Rattle.taskfile.specs.Scan.{advance}
 use Rattle.taskfile.specs.Contents.{read_of}
@@ -19,12 +21,24 @@ use Rattle.taskfile.specs.Writing.{file_of, FileWriting, unwritten, write_of}
 use Rattle.taskfile.specs.CarriedLaws.{Carried, carried_is}
 use Rattle.taskfile.specs.WritingLaws.{file_length}
 use Rattle.gridmap.specs.declared.Survey.{Survey}
-use Rattle.gridmap.specs.declared.Survey.TheVariants.{Drawn, Refused}
+use Rattle.gridmap.specs.Faults.{map_fault_number}
 use Rattle.gridmap.specs.Map.{map_of, count_right}
 use Rattle.gridmap.specs.Reading.{read_map}
 use Rattle.report.specs.Text.{printed}
 use Rattle.runs.specs.Definitions.{definitions}
 use Rattle.runs.specs.Tasks.{lines}
+
+-- an answer whose error is said by its number, as the documents say it
+abbrev by_number : {A E N : Type 0} → (E → N) → Result A E → Result A N
+by_number number (Ok a) = Ok a
+by_number number (Err e) = Err (number e)
+
+-- a fault by its number and offset, and a refusal to write by its number
+abbrev numbered : Result Contents Fault → Result Contents (ℕ × ℕ)
+numbered r = by_number (λ (fault : Fault). (fault_number fault.kind, fault.at)) r
+
+abbrev replied : FileWriting → Result ℕ ℕ × List ℕ
+replied w = (by_number unwritable_number w.reply, w.buffer)
 
 -- a head (length 12, kind 1) with these six numbers, each below 256; and one of a task of one state. What follows it begins at 16.
 abbrev head : ℕ → ℕ → ℕ → ℕ → ℕ → ℕ → List ℕ
@@ -55,18 +69,18 @@ abbrev whole : List ℕ
 whole = one ++ (passage ++ (row 1 0 ++ (call 0 3 ++ call 1 3)))
 
 -- reading a file into slices of so many places with a 9 in each: the outcome, and the slices
-abbrev read : List ℕ → ℕ → ℕ → ℕ → Outcome × List ℕ × List ℕ × List ℕ
+abbrev read : List ℕ → ℕ → ℕ → ℕ → Result Contents (ℕ × ℕ) × List ℕ × List ℕ × List ℕ
 read file passages estimates calls =
     let r = read_of file (replicate passages 9) (replicate estimates 9) (replicate calls 9) in
-    (r.outcome, r.passages, r.estimates, r.calls)
+    (numbered r.outcome, r.passages, r.estimates, r.calls)
 
 -- the outcome alone, with room enough
-abbrev outcome : List ℕ → Outcome
-outcome file = (read_of file (replicate 4 9) (replicate 2 9) (replicate 3 9)).outcome
+abbrev outcome : List ℕ → Result Contents (ℕ × ℕ)
+outcome file = numbered (read_of file (replicate 4 9) (replicate 2 9) (replicate 3 9)).outcome
 
--- how a scan stands after a passage, where so many came before it: 0 where it goes on, else the fault's number
-abbrev status : ℕ → ℕ
-status passages = (advance (one ++ passage) (record { at = 16; n = 1; passages = passages; rows = 0; calls = 0; status = 0 })).status
+-- how a scan stands after a passage, where so many came before it: it goes on, or the fault's number
+abbrev status : ℕ → Result Scan ℕ
+status passages = by_number fault_number (advance (one ++ passage) (record { at = 16; n = 1; passages = passages; rows = 0; calls = 0 }))
 
 -- a task's six numbers, and those of `one`
 abbrev six : ℕ → ℕ → ℕ → ℕ → ℕ → ℕ → Head
@@ -76,14 +90,12 @@ abbrev lone : Head
 lone = six 1 1 0 0 100 100
 
 -- writing what `whole` holds to a buffer of so many places with a 9 in each: the reply, and the buffer
-abbrev write : ℕ → Filed × List ℕ
-write places =
-    let w = write_of lone (0 ∷ 0 ∷ 67305985 ∷ []) (0 ∷ []) (3 ∷ 65539 ∷ []) (replicate places 9) in
-    (w.reply, w.buffer)
+abbrev write : ℕ → Result ℕ ℕ × List ℕ
+write places = replied (write_of lone (0 ∷ 0 ∷ 67305985 ∷ []) (0 ∷ []) (3 ∷ 65539 ∷ []) (replicate places 9))
 
--- the reply alone, where the buffer has no place: 26 unless something else stands against it. (Order 6's Refused is called Unwritten here.)
-abbrev filed : Head → List ℕ → List ℕ → List ℕ → Filed
-filed t passages estimates calls = (write_of t passages estimates calls []).reply
+-- the reply alone, where the buffer has no place: 26 unless something else stands against it.
+abbrev filed : Head → List ℕ → List ℕ → List ℕ → Result ℕ ℕ
+filed t passages estimates calls = (replied (write_of t passages estimates calls [])).0
 
 -- a task of three states with so many passages and events, where all of these and the estimates are 0: writing it to a buffer of one place, and how long its file is
 abbrev three : Head
@@ -115,7 +127,7 @@ module _ (passages calls : ℕ) (few : passages ≤ 512) where
   filling_length_lem : length (file_of three (replicate (3 * passages) 0) (replicate 9 0) (replicate calls 0)) ≡ filling_length passages calls
   filling_length_lem = file_length _ _ _ _ ∙ omega (arith, length-replicate {A = ℕ} (3 * passages) 0, length-replicate {A = ℕ} calls 0)
 
-  filling_is : filling passages calls ≡ provided (leb (filling_length passages calls) 65536) (unwritten 25 (9 ∷ [])) (unwritten 26 (9 ∷ []))
+  filling_is : filling passages calls ≡ provided (leb (filling_length passages calls) 65536) (unwritten FileTooLarge (9 ∷ [])) (unwritten ShortBuffer (9 ∷ []))
   unfolding write_of
   filling_is = rw (carried_is _ _ _ _ filling_carried, filling_length_lem, lt-leb (filling_length passages calls) 1 (omega arith))
 
@@ -124,8 +136,8 @@ abbrev drawing : String → String → List String → List ℕ
 drawing height width rows = lines ("type octile" ∷ height ∷ width ∷ "map" ∷ rows)
 
 -- what is replied to it, with slices of so many places
-abbrev survey : ℕ → ℕ → List ℕ → Survey
-survey passages estimates text = (read_map text (replicate passages 9) (replicate estimates 9)).reply
+abbrev survey : ℕ → ℕ → List ℕ → Result Survey ℕ
+survey passages estimates text = by_number map_fault_number (read_map text (replicate passages 9) (replicate estimates 9)).reply
 
 -- two rows of two open cells
 abbrev square : List ℕ
@@ -133,38 +145,38 @@ square = drawing "height 2" "width 2" (".." ∷ ".G" ∷ [])
 
 pub record Files : Type 0 where
   -- "n, k, start, goal, W, E, two bytes each"
-  pub file_head : outcome (head 1 2 3 4 5 6 ++ row 1 0) ≡ Read (record { n = 1; k = 2; start = 3; goal = 4; pull = 5; excess = 6; passages = 0; calls = 0 })
+  pub file_head : outcome (head 1 2 3 4 5 6 ++ row 1 0) ≡ Ok (record { n = 1; k = 2; start = 3; goal = 4; pull = 5; excess = 6; passages = 0; calls = 0 })
   -- "from, to (two bytes each), cost (four)"; "call (one byte, 0 Take, 1 Bring), worker (one byte)"; "places past what is read stay". A call is 65,536 × call + worker.
   pub file_slices : read whole 4 2 3 ≡
-      (Read (record { n = 1; k = 1; start = 0; goal = 0; pull = 100; excess = 100; passages = 1; calls = 2 }), 0 ∷ 0 ∷ 67305985 ∷ 9 ∷ [], 0 ∷ 9 ∷ [], 3 ∷ 65539 ∷ 9 ∷ [])
+      (Ok (record { n = 1; k = 1; start = 0; goal = 0; pull = 100; excess = 100; passages = 1; calls = 2 }), 0 ∷ 0 ∷ 67305985 ∷ 9 ∷ [], 0 ∷ 9 ∷ [], 3 ∷ 65539 ∷ 9 ∷ [])
   -- 21 "fewer bytes left than length and kind take, or than the length then asks for", of an unknown kind too, "or the file ends before the head and all rows are there (offset: file length)"
   pub file_21 :
       map outcome ((one ++ (0 ∷ 0 ∷ 5 ∷ [])) ∷ (one ++ front 11 passage) ∷ (one ++ (1 ∷ 0 ∷ 5 ∷ 0 ∷ [])) ∷ [] ∷ one ∷ []) ≡
-      Fault 21 16 ∷ Fault 21 16 ∷ Fault 21 16 ∷ Fault 21 0 ∷ Fault 21 16 ∷ []
+      Err (21, 16) ∷ Err (21, 16) ∷ Err (21, 16) ∷ Err (21, 0) ∷ Err (21, 16) ∷ []
   -- 22 "unknown kind"
-  pub file_22_kind : map outcome ((one ++ (0 ∷ 0 ∷ 0 ∷ 0 ∷ [])) ∷ (one ++ (0 ∷ 0 ∷ 5 ∷ 0 ∷ [])) ∷ []) ≡ Fault 22 16 ∷ Fault 22 16 ∷ []
+  pub file_22_kind : map outcome ((one ++ (0 ∷ 0 ∷ 0 ∷ 0 ∷ [])) ∷ (one ++ (0 ∷ 0 ∷ 5 ∷ 0 ∷ [])) ∷ []) ≡ Err (22, 16) ∷ Err (22, 16) ∷ []
   -- "payload length wrong for its kind", of a head whose n is 0 too
   pub file_22_length :
       map outcome (longer (head 0 1 0 0 100 100) ∷ (one ++ longer passage) ∷ (one ++ longer (row 1 0)) ∷ (one ++ (row 1 0 ++ longer (call 0 0))) ∷ []) ≡
-      Fault 22 0 ∷ Fault 22 16 ∷ Fault 22 16 ∷ Fault 22 26 ∷ []
+      Err (22, 0) ∷ Err (22, 16) ∷ Err (22, 16) ∷ Err (22, 26) ∷ []
   -- "kind or row out of order (a kind 4 before the last row too)": a passage, a row, a call first; two heads; a passage after a row; row 1 first; a row too many; a call before the row
-  pub file_22_first : map outcome (passage ∷ row 1 0 ∷ call 0 0 ∷ []) ≡ Fault 22 0 ∷ Fault 22 0 ∷ Fault 22 0 ∷ []
+  pub file_22_first : map outcome (passage ∷ row 1 0 ∷ call 0 0 ∷ []) ≡ Err (22, 0) ∷ Err (22, 0) ∷ Err (22, 0) ∷ []
   pub file_22_order :
       map outcome ((one ++ one) ∷ (one ++ (row 1 0 ++ passage)) ∷ (one ++ row 1 1) ∷ (one ++ (row 1 0 ++ row 1 1)) ∷ (one ++ call 0 0) ∷ []) ≡
-      Fault 22 16 ∷ Fault 22 26 ∷ Fault 22 16 ∷ Fault 22 26 ∷ Fault 22 16 ∷ []
+      Err (22, 16) ∷ Err (22, 26) ∷ Err (22, 16) ∷ Err (22, 26) ∷ Err (22, 16) ∷ []
   -- "call above 1"
-  pub file_22_call : outcome (one ++ (row 1 0 ++ call 2 0)) ≡ Fault 22 26
+  pub file_22_call : outcome (one ++ (row 1 0 ++ call 2 0)) ≡ Err (22, 26)
   -- 23 "n not 1 to 64, or a 513th passage": where n is right, the rows are missed
-  pub file_23_n : map (λ n. outcome (head n 1 0 0 100 100)) (0 ∷ 1 ∷ 64 ∷ 65 ∷ []) ≡ Fault 23 0 ∷ Fault 21 16 ∷ Fault 21 16 ∷ Fault 23 0 ∷ []
-  pub file_23_passages : map status (511 ∷ 512 ∷ []) ≡ 0 ∷ 23 ∷ []
+  pub file_23_n : map (λ n. outcome (head n 1 0 0 100 100)) (0 ∷ 1 ∷ 64 ∷ 65 ∷ []) ≡ Err (23, 0) ∷ Err (21, 16) ∷ Err (21, 16) ∷ Err (23, 0) ∷ []
+  pub file_23_passages : map status (511 ∷ 512 ∷ []) ≡ Ok (record { at = 28; n = 1; passages = 512; rows = 0; calls = 0 }) ∷ Err 23 ∷ []
   -- "A file over 65,536 bytes is 23 at 65,536 before all else."
-  pub file_23_bytes : outcome (replicate 65537 0) ≡ Fault 23 65536
+  pub file_23_bytes : outcome (replicate 65537 0) ≡ Err (23, 65536)
   -- 27 "after all others (offset 0): a lent slice too short for the passages, estimates or calls read. A fault writes nothing"
   pub file_27 :
       read whole 2 2 3 ∷ read whole 4 0 3 ∷ read whole 4 2 1 ∷ read (whole ++ (0 ∷ [])) 0 0 0 ∷ [] ≡
-      (Fault 27 0, replicate 2 9, replicate 2 9, replicate 3 9) ∷ (Fault 27 0, replicate 4 9, [], replicate 3 9) ∷ (Fault 27 0, replicate 4 9, replicate 2 9, 9 ∷ []) ∷ (Fault 21 50, [], [], []) ∷ []
+      (Err (27, 0), replicate 2 9, replicate 2 9, replicate 3 9) ∷ (Err (27, 0), replicate 4 9, [], replicate 3 9) ∷ (Err (27, 0), replicate 4 9, replicate 2 9, 9 ∷ []) ∷ (Err (21, 50), [], [], []) ∷ []
   -- Order 6: "Write a task and a list of events as a task file into a lent buffer; the bytes after it stay."
-  pub write_whole : write 50 ∷ write 52 ∷ [] ≡ (Written 50, whole) ∷ (Written 50, whole ++ (9 ∷ 9 ∷ [])) ∷ []
+  pub write_whole : write 50 ∷ write 52 ∷ [] ≡ (Ok 50, whole) ∷ (Ok 50, whole ++ (9 ∷ 9 ∷ [])) ∷ []
   -- "n, k, start, goal, W, E, two bytes each"; "row number (two), then n estimates of four bytes; rows 0 to n − 1 in order": h(a,b) from a × n + b
   pub write_rows : (write_of (six 2 1 2 3 4 5) [] (6 ∷ 7 ∷ 8 ∷ 9 ∷ []) [] (replicate 44 0)).buffer ≡
       head 2 1 2 3 4 5 ++ (
@@ -172,16 +184,16 @@ pub record Files : Type 0 where
       10 ∷ 0 ∷ 3 ∷ 0 ∷ 1 ∷ 0 ∷ 8 ∷ 0 ∷ 0 ∷ 0 ∷ 9 ∷ 0 ∷ 0 ∷ 0 ∷ [])
   -- "Reading what was written gives the same task and events"
   pub write_read : read (front 50 (write 52).1) 4 2 3 ≡
-      (Read (record { n = 1; k = 1; start = 0; goal = 0; pull = 100; excess = 100; passages = 1; calls = 2 }), 0 ∷ 0 ∷ 67305985 ∷ 9 ∷ [], 0 ∷ 9 ∷ [], 3 ∷ 65539 ∷ 9 ∷ [])
+      (Ok (record { n = 1; k = 1; start = 0; goal = 0; pull = 100; excess = 100; passages = 1; calls = 2 }), 0 ∷ 0 ∷ 67305985 ∷ 9 ∷ [], 0 ∷ 9 ∷ [], 3 ∷ 65539 ∷ 9 ∷ [])
   -- 24 "n not 1 to 64": with n × n estimates
-  pub write_24_n : map (λ n. filed (six n 1 0 0 100 100) [] (replicate (n * n) 0) []) (0 ∷ 1 ∷ 64 ∷ 65 ∷ []) ≡ Unwritten 24 ∷ Unwritten 26 ∷ Unwritten 26 ∷ Unwritten 24 ∷ []
+  pub write_24_n : map (λ n. filed (six n 1 0 0 100 100) [] (replicate (n * n) 0) []) (0 ∷ 1 ∷ 64 ∷ 65 ∷ []) ≡ Err 24 ∷ Err 26 ∷ Err 26 ∷ Err 24 ∷ []
   -- "passage slice not a multiple of 3"
-  pub write_24_thirds : map (λ long. filed lone (replicate long 0) (0 ∷ []) []) (2 ∷ 3 ∷ 4 ∷ []) ≡ Unwritten 24 ∷ Unwritten 26 ∷ Unwritten 24 ∷ []
+  pub write_24_thirds : map (λ long. filed lone (replicate long 0) (0 ∷ []) []) (2 ∷ 3 ∷ 4 ∷ []) ≡ Err 24 ∷ Err 26 ∷ Err 24 ∷ []
   -- "or above 512 passages"
-  pub write_24_512 : filling 512 0 ≡ unwritten 26 (9 ∷ [])
-  pub write_24_513 : filling 513 0 ≡ unwritten 24 (9 ∷ [])
+  pub write_24_512 : replied (filling 512 0) ≡ (Err 26, 9 ∷ [])
+  pub write_24_513 : replied (filling 513 0) ≡ (Err 24, 9 ∷ [])
   -- "estimate slice not n × n"
-  pub write_24_estimates : map (λ long. filed (six 2 1 0 0 100 100) [] (replicate long 0) []) (3 ∷ 4 ∷ 5 ∷ []) ≡ Unwritten 24 ∷ Unwritten 26 ∷ Unwritten 24 ∷ []
+  pub write_24_estimates : map (λ long. filed (six 2 1 0 0 100 100) [] (replicate long 0) []) (3 ∷ 4 ∷ 5 ∷ []) ≡ Err 24 ∷ Err 26 ∷ Err 24 ∷ []
   -- "a field above its bytes": k, start, goal, W and E
   pub write_24_head :
       map (λ t. filed t [] (0 ∷ []) []) (
@@ -191,7 +203,7 @@ pub record Files : Type 0 where
       six 1 1 0 65536 100 100 ∷
       six 1 1 0 0 65536 100 ∷
       six 1 1 0 0 100 65536 ∷ []) ≡
-      Unwritten 26 ∷ replicate 5 (Unwritten 24)
+      Err 26 ∷ replicate 5 (Err 24)
   -- a passage's ends; any cost fits its four bytes
   pub write_24_ends :
       map (λ passages. filed lone passages (0 ∷ []) []) (
@@ -199,20 +211,20 @@ pub record Files : Type 0 where
       (65536 ∷ 0 ∷ 0 ∷ []) ∷
       (0 ∷ 65536 ∷ 0 ∷ []) ∷
       (0 ∷ 0 ∷ 0 ∷ 65536 ∷ 0 ∷ 0 ∷ []) ∷ []) ≡
-      Unwritten 26 ∷ replicate 3 (Unwritten 24)
+      Err 26 ∷ replicate 3 (Err 24)
   -- and a worker, of a Take and of a Bring: 255 and 256
   pub write_24_worker :
       map (λ event. filed lone [] (0 ∷ []) (event ∷ [])) (255 ∷ 256 ∷ 65791 ∷ 65792 ∷ []) ≡
-      Unwritten 26 ∷ Unwritten 24 ∷ Unwritten 26 ∷ Unwritten 24 ∷ []
+      Err 26 ∷ Err 24 ∷ Err 26 ∷ Err 24 ∷ []
   -- "an event neither Take nor Bring": a Bring, and then one with a call of 2 behind it
-  pub write_24_event : map (filed lone [] (0 ∷ [])) ((65536 ∷ []) ∷ (65536 ∷ 131072 ∷ []) ∷ []) ≡ Unwritten 26 ∷ Unwritten 24 ∷ []
+  pub write_24_event : map (filed lone [] (0 ∷ [])) ((65536 ∷ []) ∷ (65536 ∷ 131072 ∷ []) ∷ []) ≡ Err 26 ∷ Err 24 ∷ []
   -- "Refusals, in order": 24, though the file would have 65,542 bytes, and the buffer has no place
-  pub write_24_first : filed (six 3 65536 0 0 100 100) [] (replicate 9 0) (replicate 10912 0) ≡ Unwritten 24
+  pub write_24_first : filed (six 3 65536 0 0 100 100) [] (replicate 9 0) (replicate 10912 0) ≡ Err 24
   -- "25 a file above 65,536 bytes", before 26: a file of 65,536 bytes, and one of 65,542
-  pub write_25_not : filling 0 10911 ≡ unwritten 26 (9 ∷ [])
-  pub write_25 : filling 0 10912 ≡ unwritten 25 (9 ∷ [])
+  pub write_25_not : replied (filling 0 10911) ≡ (Err 26, 9 ∷ [])
+  pub write_25 : replied (filling 0 10912) ≡ (Err 25, 9 ∷ [])
   -- "26 buffer too short". A refusal leaves the buffer, also one that is long enough.
-  pub write_26 : write 49 ≡ (Unwritten 26, replicate 49 9)
+  pub write_26 : write 49 ≡ (Err 26, replicate 49 9)
   pub write_nothing : (write_of lone [] [] [] (replicate 26 9)).buffer ≡ replicate 26 9
   -- "a word, the worker, a number where there is one (`took` state, `brought` count, `found` cost, `refused` number, `wait` and `nopath` none). After `found` comes a `path` line with the states."
   pub text_found : printed (one ++ (row 1 0 ++ (call 0 0 ++ call 1 200))) ≡ lines ("found 0 0" ∷ "path 0" ∷ "refused 200 9" ∷ [])
@@ -229,7 +241,7 @@ pub record Files : Type 0 where
       drawing "height 257" "width 1" ("x" ∷ []) ∷
       drawing "height 1" "width 01" ("x" ∷ []) ∷
       drawing "height 1" "width  1" ("x" ∷ []) ∷ []) ≡
-      replicate 6 (Refused 31)
+      replicate 6 (Err 31)
   -- "32 row length, row count or character": no cell is open, and the slices are too short
   pub map_32 :
       map (survey 0 0) (
@@ -237,13 +249,13 @@ pub record Files : Type 0 where
       drawing "height 2" "width 2" ("@@" ∷ []) ∷
       drawing "height 2" "width 2" ("@@" ∷ "@@" ∷ "@@" ∷ []) ∷
       drawing "height 2" "width 2" ("@@" ∷ "@x" ∷ []) ∷ []) ≡
-      replicate 4 (Refused 32)
+      replicate 4 (Err 32)
   -- "33 no open cell or more than 256": 17 rows of 16; 16 rows of 16 aren't too many
   pub map_33 :
-      map (survey 0 0) (drawing "height 1" "width 3" ("@OT" ∷ []) ∷ drawing "height 17" "width 16" (replicate 17 "................") ∷ []) ≡ Refused 33 ∷ Refused 33 ∷ []
+      map (survey 0 0) (drawing "height 1" "width 3" ("@OT" ∷ []) ∷ drawing "height 17" "width 16" (replicate 17 "................") ∷ []) ≡ Err 33 ∷ Err 33 ∷ []
   pub map_256 : count_right (map_of (drawing "height 16" "width 16" (replicate 16 "................"))) ≡ true
   -- "34 a lent slice too short"; "Reply: the counts of cells and passages"
-  pub map_34 : survey 35 16 square ∷ survey 36 15 square ∷ survey 36 16 square ∷ [] ≡ Refused 34 ∷ Refused 34 ∷ Drawn 4 12 ∷ []
+  pub map_34 : survey 35 16 square ∷ survey 36 15 square ∷ survey 36 16 square ∷ [] ≡ Err 34 ∷ Err 34 ∷ Ok (record { cells = 4; passages = 12 }) ∷ []
   -- "in the order N (the row above), NE, E, SE, S, SW, W, NW, cost 1,000 straight and 1,414 diagonal": the middle cell of nine is state 4, and 16 passages come before its own
   pub map_order : front 24 (drop 48 (read_map (drawing "height 3" "width 3" (replicate 3 "...")) (replicate 120 0) (replicate 81 0)).passages) ≡
       4 ∷ 1 ∷ 1000 ∷
@@ -283,7 +295,7 @@ files = record {
   write_read = refl;
   write_24_n = refl;
   write_24_thirds = refl;
-  write_24_512 = filling_is 512 0 (omega arith);
+  write_24_512 = ap replied (filling_is 512 0 (omega arith));
   write_24_513 = refl;
   write_24_estimates = refl;
   write_24_head = refl;
@@ -291,8 +303,8 @@ files = record {
   write_24_worker = refl;
   write_24_event = refl;
   write_24_first = refl;
-  write_25_not = filling_is 0 10911 (omega arith);
-  write_25 = filling_is 0 10912 (omega arith);
+  write_25_not = ap replied (filling_is 0 10911 (omega arith));
+  write_25 = ap replied (filling_is 0 10912 (omega arith));
   write_26 = refl;
   write_nothing = refl;
   text_found = refl;

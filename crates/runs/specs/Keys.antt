@@ -4,17 +4,19 @@ use Rattle.std.specs.Prelude.{◌≡◌, refl, List, [], ◌∷◌, map, ℕ, �
 use Rattle.checks.specs.Opening.{Task, task}
 use Rattle.desk.specs.declared.Machine.{Machine}
 use Rattle.desk.specs.declared.Reply.{Reply}
-use Rattle.desk.specs.declared.Reply.TheVariants.{Took, Wait, Read, Refused, Done, Cut}
+use Rattle.desk.specs.declared.Reply.TheVariants.{Took, Wait, Read, Done, Cut}
 use Rattle.desk.specs.declared.Answer.{Answer}
 use Rattle.desk.specs.declared.Counted.{Counted}
 use Rattle.desk.specs.Machine.{with_phase, with_label, with_via, with_key}
-use Rattle.desk.specs.Reply.{answer, refused}
+use Rattle.desk.specs.Reply.{answer}
 use Rattle.desk.specs.Limited.{limited_of}
 use Rattle.desk.specs.Path.{path_of}
-use Rattle.desk.specs.Calls.{Event, take, bring, call, answers}
+use Rattle.desk.specs.declared.Event.{Event}
+use Rattle.desk.specs.declared.Event.TheVariants.{Take as take, Bring as bring}
+use Rattle.desk.specs.Calls.{call, answers}
 use Rattle.desk.specs.Morning.{morning_of}
 use Rattle.runs.specs.Definitions.{definitions}
-use Rattle.runs.specs.Tasks.{passages, zeros, h, task_with, opened, end}
+use Rattle.runs.specs.Tasks.{passages, zeros, h, task_with, opened, end, refused_by}
 use Rattle.runs.specs.Made.{made, midway_in, arrived_in, over, counted}
 
 -- h(a,b) is by how much b is nearer to task A's goal than a: from 0, 1, 2, 3 and 4 the costs left are 6, 4, 3, 1 and 0, which are also the h(s, goal)
@@ -140,19 +142,19 @@ pub record Keys : Type 0 where
   -- A key past n stays, whatever it is: "stays so where no rule sets it".
   pub brought_past : (called (with_key underway 5 9) (bring 0)).machine.key ≡ 300 ∷ 400 ∷ 450 ∷ 0 ∷ 1100 ∷ 9 ∷ replicate 250 0
   -- "8 also where the stored key of a state below n isn't that": by one, of the open 2, the out 1 and the finished 0; and where it is 0, as of an unseen one
-  pub fits_open : told_with 2 (649 ∷ 650 ∷ 651 ∷ 0 ∷ []) ≡ Refused 8 ∷ Wait 1 ∷ Refused 8 ∷ Refused 8 ∷ []
-  pub fits_out : told_with 1 (399 ∷ 400 ∷ 401 ∷ 0 ∷ []) ≡ Refused 8 ∷ Wait 1 ∷ Refused 8 ∷ Refused 8 ∷ []
-  pub fits_finished : told_with 0 (299 ∷ 300 ∷ 301 ∷ 0 ∷ []) ≡ Refused 8 ∷ Wait 1 ∷ Refused 8 ∷ Refused 8 ∷ []
+  pub fits_open : told_with 2 (649 ∷ 650 ∷ 651 ∷ 0 ∷ []) ≡ refused_by 8 ∷ Wait 1 ∷ refused_by 8 ∷ refused_by 8 ∷ []
+  pub fits_out : told_with 1 (399 ∷ 400 ∷ 401 ∷ 0 ∷ []) ≡ refused_by 8 ∷ Wait 1 ∷ refused_by 8 ∷ refused_by 8 ∷ []
+  pub fits_finished : told_with 0 (299 ∷ 300 ∷ 301 ∷ 0 ∷ []) ≡ refused_by 8 ∷ Wait 1 ∷ refused_by 8 ∷ refused_by 8 ∷ []
   -- "(0 for unseen)": of 4, the last below n; places past n aren't read
-  pub fits_past : told_with 4 (0 ∷ 1 ∷ []) ∷ told_with 5 (0 ∷ 1 ∷ []) ∷ told_with 255 (0 ∷ 1 ∷ []) ∷ [] ≡ (Wait 1 ∷ Refused 8 ∷ []) ∷ (Wait 1 ∷ Wait 1 ∷ []) ∷ (Wait 1 ∷ Wait 1 ∷ []) ∷ []
+  pub fits_past : told_with 4 (0 ∷ 1 ∷ []) ∷ told_with 5 (0 ∷ 1 ∷ []) ∷ told_with 255 (0 ∷ 1 ∷ []) ∷ [] ≡ (Wait 1 ∷ refused_by 8 ∷ []) ∷ (Wait 1 ∷ Wait 1 ∷ []) ∷ (Wait 1 ∷ Wait 1 ∷ []) ∷ []
   -- It is 0 whatever the label, and not what the labels 0, 7 and 255,000,000 make of it: 50, 700 + 50, 25,500,000,000 + 50.
   pub fits_unseen : map (λ label. told_unseen label 0) (0 ∷ 7 ∷ 255000000 ∷ []) ≡ Wait 1 ∷ Wait 1 ∷ Wait 1 ∷ []
-  pub fits_formula : told_unseen 0 50 ∷ told_unseen 7 750 ∷ told_unseen 255000000 25500000050 ∷ [] ≡ Refused 8 ∷ Refused 8 ∷ Refused 8 ∷ []
+  pub fits_formula : told_unseen 0 50 ∷ told_unseen 7 750 ∷ told_unseen 255000000 25500000050 ∷ [] ≡ refused_by 8 ∷ refused_by 8 ∷ refused_by 8 ∷ []
   -- The largest of a task that opening accepts, 25,500,000,000 + 10,000 × 255,000,000, and what 32 bits would keep of it; and, as "Estimates aren't checked again at each call", one with the largest number of 32 bits as an estimate.
-  pub fits_largest : told_largest 255000000 2575500000000 ∷ told_largest 255000000 2814589696 ∷ told_largest 4294967295 42975172950000 ∷ [] ≡ Took 0 ∷ Refused 8 ∷ Took 0 ∷ []
+  pub fits_largest : told_largest 255000000 2575500000000 ∷ told_largest 255000000 2814589696 ∷ told_largest 4294967295 42975172950000 ∷ [] ≡ Took 0 ∷ refused_by 8 ∷ Took 0 ∷ []
   -- Another table than the one the keys were made with: another h(s, goal) of the open, the out and the finished state. Not looked at are that of the unseen 3, and h(1,2), by which 2 depends on 1 still, 300 > 200.
   pub fits_table : map told_by (h 2 4 4 nearer ∷ h 1 4 5 nearer ∷ h 0 4 7 nearer ∷ zeros ∷ h 3 4 2 nearer ∷ h 1 2 2 nearer ∷ nearer ∷ []) ≡
-      Refused 8 ∷ Refused 8 ∷ Refused 8 ∷ Refused 8 ∷ Wait 1 ∷ Wait 1 ∷ Wait 1 ∷ []
+      refused_by 8 ∷ refused_by 8 ∷ refused_by 8 ∷ refused_by 8 ∷ Wait 1 ∷ Wait 1 ∷ Wait 1 ∷ []
   -- Other numbers in the machine than those the keys were made with: W 51, W 0, goal 3. Start, k and E make no key; with E 200, 300 > 200.
   pub fits_numbers :
       map told_as (
@@ -162,23 +164,23 @@ pub record Keys : Type 0 where
       task 5 2 1 4 50 100 passages nearer ∷
       task 5 3 0 4 50 100 passages nearer ∷
       task 5 2 0 4 50 200 passages nearer ∷ []) ≡
-      Refused 8 ∷ Refused 8 ∷ Refused 8 ∷ Wait 1 ∷ Wait 1 ∷ Wait 1 ∷ []
+      refused_by 8 ∷ refused_by 8 ∷ refused_by 8 ∷ Wait 1 ∷ Wait 1 ∷ Wait 1 ∷ []
   -- "the machine comes back as it went in": by Take and Bring, which are Wait 1 and Brought 2 with the right key
-  pub refused_machine : called wrong (take 1) ∷ called wrong (bring 0) ∷ [] ≡ refused wrong 8 ∷ refused wrong 8 ∷ []
+  pub refused_machine : called wrong (take 1) ∷ called wrong (bring 0) ∷ [] ≡ answer wrong (refused_by 8) ∷ answer wrong (refused_by 8) ∷ []
   -- 8 comes before 9, 10 and 11, which apply too.
-  pub refused_order : asked wrong ∷ asked underway ∷ [] ≡ (Refused 8 ∷ Refused 8 ∷ Refused 8 ∷ Refused 8 ∷ []) ∷ (Refused 9 ∷ Refused 10 ∷ Refused 11 ∷ Refused 11 ∷ []) ∷ []
+  pub refused_order : asked wrong ∷ asked underway ∷ [] ≡ (refused_by 8 ∷ refused_by 8 ∷ refused_by 8 ∷ refused_by 8 ∷ []) ∷ (refused_by 9 ∷ refused_by 10 ∷ refused_by 11 ∷ refused_by 11 ∷ []) ∷ []
   -- A limited Take, with a count of "0 where refused", is refused before it is Cut: worker 1 makes 1 comparison, of 2 with 1.
   pub limited_wrong :
       limited_by wrong 1 1 ∷ limited_by wrong 1 0 ∷ limited_by (over wrong) 2 0 ∷ limited_by underway 1 1 ∷ limited_by underway 1 0 ∷ [] ≡
-      counted wrong (Refused 8) 0 ∷ counted wrong (Refused 8) 0 ∷ counted (over wrong) (Refused 8) 0 ∷ counted underway (Wait 1) 1 ∷ counted underway (Cut 0) 0 ∷ []
+      counted wrong (refused_by 8) 0 ∷ counted wrong (refused_by 8) 0 ∷ counted (over wrong) (refused_by 8) 0 ∷ counted underway (Wait 1) 1 ∷ counted underway (Cut 0) 0 ∷ []
   -- Path reading: a finished state's key, the goal's, and one past n; "Nothing is written".
   pub path_keys :
       map (read_from 0) (there ∷ wrong_there ∷ with_key there 4 599 ∷ with_key there 5 1 ∷ []) ≡
-      (Read 5, 0 ∷ 1 ∷ 2 ∷ 3 ∷ 4 ∷ 9 ∷ []) ∷ (Refused 8, nines) ∷ (Refused 8, nines) ∷ (Read 5, 0 ∷ 1 ∷ 2 ∷ 3 ∷ 4 ∷ 9 ∷ []) ∷ []
+      (Read 5, 0 ∷ 1 ∷ 2 ∷ 3 ∷ 4 ∷ 9 ∷ []) ∷ (refused_by 8, nines) ∷ (refused_by 8, nines) ∷ (Read 5, 0 ∷ 1 ∷ 2 ∷ 3 ∷ 4 ∷ 9 ∷ []) ∷ []
   -- 8 comes before 13, 14 and 15, which apply too.
   pub path_order :
       readings wrong_there ∷ readings there ∷ [] ≡
-      ((Refused 8, nines) ∷ (Refused 8, nines) ∷ (Refused 8, nines) ∷ []) ∷ ((Refused 13, nines) ∷ (Refused 14, nines) ∷ (Refused 15, nines) ∷ []) ∷ []
+      ((refused_by 8, nines) ∷ (refused_by 8, nines) ∷ (refused_by 8, nines) ∷ []) ∷ ((refused_by 13, nines) ∷ (refused_by 14, nines) ∷ (refused_by 15, nines) ∷ []) ∷ []
   -- A whole morning is served: its Take and its Bring get their 8.
   pub morning_wrong : morning_of wrong passages nearer (1 ∷ 65536 ∷ []) (9 ∷ 9 ∷ 9 ∷ []) ≡ record { given = answer wrong Done; row = (7 * 4294967296 + 8) ∷ (7 * 4294967296 + 8) ∷ 9 ∷ [] }
   pub morning_table : morning_of underway passages zeros (1 ∷ 65536 ∷ []) (9 ∷ 9 ∷ 9 ∷ []) ≡ record { given = answer underway Done; row = (7 * 4294967296 + 8) ∷ (7 * 4294967296 + 8) ∷ 9 ∷ [] }

@@ -10,19 +10,21 @@ use Rattle.dealing.specs.Decision.{decision}
 use Rattle.dealing.specs.Limited.{limited_decision}
 use Rattle.desk.specs.declared.Machine.{Machine}
 use Rattle.desk.specs.declared.Reply.{Reply}
-use Rattle.desk.specs.declared.Reply.TheVariants.{Opened, Took, Brought, Found, NoPath, Wait, Refused, Cut}
+use Rattle.desk.specs.declared.Reply.TheVariants.{Opened, Took, Brought, Found, NoPath, Wait, Cut}
 use Rattle.desk.specs.Machine.{with_phase}
 use Rattle.desk.specs.Reply.{code_of}
 use Rattle.desk.specs.Limited.{limited_of}
-use Rattle.desk.specs.Calls.{Event, take, bring, call}
+use Rattle.desk.specs.declared.Event.{Event}
+use Rattle.desk.specs.declared.Event.TheVariants.{Take as take, Bring as bring}
+use Rattle.desk.specs.Calls.{call}
 use Rattle.runs.specs.Definitions.{definitions}
-use Rattle.runs.specs.Tasks.{zeros, ones, h, task_a, task_c, opened, refusal, end, events_a}
+use Rattle.runs.specs.Tasks.{zeros, ones, h, task_a, task_c, opened, refusal, end, events_a, refused_by}
 use Rattle.runs.specs.Made.{made, midway, arrived, called, limited_by, counted}
 
 -- calls on task A, each Take a limited one with this limit: the replies, each with the comparisons made
 abbrev course : ℕ → Machine → List Event → List (Reply × ℕ)
 course limit m [] = []
-course limit m (take worker ∷ rest) = let c = limited_by m worker limit in (c.reply, c.comparisons) ∷ course limit c.machine rest
+course limit m (take worker ∷ rest) = let c = limited_by m worker limit in (c.answer.reply, c.comparisons) ∷ course limit c.answer.machine rest
 course limit m (bring worker ∷ rest) = let a = called m (bring worker) in (a.reply, 0) ∷ course limit a.machine rest
 
 -- task A after T0 B0 T0 B0: 0 and 1 are finished, 2 is open with label 3, by passage 2, and the goal with label 11, by passage 4. Here 2 has this mark, and the workers hold these states.
@@ -38,13 +40,13 @@ amid pull estimates marks labels held = made (five pull estimates) 0 marks label
 
 -- where W is this, the states have these marks and labels, and the workers hold these states: what worker 0's limited Take is told with this limit, and the comparisons that it made
 abbrev told : ℕ → ℕ → List ℕ → List ℕ → List ℕ → List ℕ → Reply × ℕ
-told limit pull estimates marks labels held = let c = limited_of (amid pull estimates marks labels held) [] estimates 0 limit in (c.reply, c.comparisons)
+told limit pull estimates marks labels held = let c = limited_of (amid pull estimates marks labels held) [] estimates 0 limit in (c.answer.reply, c.comparisons)
 
 -- what opening says of such a task, what worker 0's Take is told, and what its limited Take is told with a limit of 9, with the comparisons made
 abbrev beside : ℕ → List ℕ → List ℕ → List ℕ → List ℕ → Reply × Reply × Reply × ℕ
 beside pull estimates marks labels held =
     let c = limited_of (amid pull estimates marks labels held) [] estimates 0 9 in
-    (refusal (five pull estimates), (call [] estimates (amid pull estimates marks labels held) (take 0)).reply, c.reply, c.comparisons)
+    (refusal (five pull estimates), (call [] estimates (amid pull estimates marks labels held) (take 0)).reply, c.answer.reply, c.comparisons)
 
 -- one estimate from a state to each other one, and 0 from all others: check 7 lets them pass
 abbrev from : ℕ → ℕ → List ℕ
@@ -66,7 +68,7 @@ pub record Limits : Type 0 where
       (Took 0, 0) ∷ (Wait 0, 0) ∷ (Brought 2, 0) ∷ (Took 1, 0) ∷ (Wait 1, 1) ∷ (Brought 2, 0) ∷ (Took 2, 1) ∷ (Wait 2, 1) ∷ (Brought 1, 0) ∷ (Took 3, 1) ∷ (Wait 3, 1) ∷ (Brought 1, 0) ∷ (Found 6, 0) ∷ []
   -- With a limit of 0 the Takes with a count above 0 are Cut. So 2 stays open, and from then on every Take has the goal to compare with 2; B1 and the last B0 find nothing held.
   pub run_A1_cut : course 0 (opened task_a) events_a ≡
-      (Took 0, 0) ∷ (Wait 0, 0) ∷ (Brought 2, 0) ∷ (Took 1, 0) ∷ (Cut 0, 0) ∷ (Brought 2, 0) ∷ (Cut 0, 0) ∷ (Cut 0, 0) ∷ (Refused 11, 0) ∷ (Cut 0, 0) ∷ (Cut 0, 0) ∷ (Refused 11, 0) ∷ (Cut 0, 0) ∷ []
+      (Took 0, 0) ∷ (Wait 0, 0) ∷ (Brought 2, 0) ∷ (Took 1, 0) ∷ (Cut 0, 0) ∷ (Brought 2, 0) ∷ (Cut 0, 0) ∷ (Cut 0, 0) ∷ (refused_by 11, 0) ∷ (Cut 0, 0) ∷ (Cut 0, 0) ∷ (refused_by 11, 0) ∷ (Cut 0, 0) ∷ []
   -- "with Take's steps and Wait": the machine that each step hands back, with a limit equal to the count. 1 (200) with none; the goal, alone; nothing is open or out; 2 with 1, which is out.
   pub took_machine : limited_by (end task_a (take 0 ∷ bring 0 ∷ [])) 0 0 ≡ counted midway (Took 1) 0
   pub found_machine : limited_by (with_phase arrived 0) 1 0 ≡ counted arrived (Found 6) 0
@@ -105,11 +107,11 @@ pub record Limits : Type 0 where
   -- "On a task that opening accepted": check 7 is broken by h(2,4) = 1, and then mended by h(2,1) = 1. 1 has label 3 and 2 label 2, both key 300, and 1 depends on 2 at first, but then 100 ≤ 100. The limited Take doesn't look: 1 with none.
   pub otherwise_took :
       map (λ estimates. beside 100 estimates (3 ∷ 1 ∷ 1 ∷ []) (0 ∷ 3 ∷ 2 ∷ []) []) (h 2 4 1 zeros ∷ from 2 1 ∷ []) ≡
-      (Refused 7, Took 2, Took 1, 0) ∷ (Opened, Took 1, Took 1, 0) ∷ []
+      (refused_by 7, Took 2, Took 1, 0) ∷ (Opened, Took 1, Took 1, 0) ∷ []
   -- The same of h(1,4) = 2 and h(1,2) = 2: 1 has label 2, 2 has label 3, and both depend on 3, which is out with label 0. 2 depends on 1, too, at first, but then 100 ≤ 200. 2 (300) with 3; 1 (400) with 2, −100 ≤ 0, and with 3.
   pub otherwise_wait :
       map (λ estimates. beside 100 estimates (3 ∷ 1 ∷ 1 ∷ 2 ∷ []) (0 ∷ 2 ∷ 3 ∷ 0 ∷ []) (none ∷ 3 ∷ [])) (h 1 4 2 zeros ∷ from 1 2 ∷ []) ≡
-      (Refused 7, Wait 1, Wait 3, 3) ∷ (Opened, Wait 3, Wait 3, 3) ∷ []
+      (refused_by 7, Wait 1, Wait 3, 3) ∷ (Opened, Wait 3, Wait 3, 3) ∷ []
   -- "W (pull to the goal) 0 to E": W is 100, as E, and then 200, for which a call is refused with 8, so these are the steps alone. 1 depends on 2, 200 > 100. First 2 (400) with none, before 1 (500); then 1 (500) with none, before 2 (500).
   pub otherwise_pull : map decided (100 ∷ 200 ∷ []) ≡ (Deal 2, Deal 2) ∷ (Deal 2, Deal 1) ∷ []
   -- Cut as a number is its case × 2^32 + the limit.

@@ -12,7 +12,8 @@ use Rattle.desk.specs.declared.Answer.{Answer}
 use Rattle.desk.specs.declared.Counted.{Counted}
 use Rattle.desk.specs.Machine.{with_phase, with_mark, with_hands, hands_of}
 use Rattle.desk.specs.Opening.{opened_machine}
-use Rattle.desk.specs.Calls.{Event, call}
+use Rattle.desk.specs.declared.Event.{Event}
+use Rattle.desk.specs.Calls.{call}
 use Rattle.desk.specs.Limited.{limited_of}
 use Rattle.runs.specs.Tasks.{passages, zeros, task_a}
 
@@ -75,7 +76,7 @@ abbrev pub limited_by : Machine → ℕ → ℕ → Counted
 limited_by m worker limit = limited_of m passages zeros worker limit
 
 abbrev pub counted : Machine → Reply → ℕ → Counted
-counted m reply comparisons = record { machine = m; reply = reply; comparisons = comparisons }
+counted m reply comparisons = record { answer = record { machine = m; reply = reply }; comparisons = comparisons }
 
 -- task A's passages, but the cost of the last, 3→4, is another
 abbrev pub last_costs : ℕ → List ℕ

@@ -2,13 +2,15 @@
 use Rattle.std.specs.Prelude.{◌≡◌, refl, true, List, [], ◌∷◌, ℕ, ◌*◌, replicate, leb}
 use Rattle.checks.specs.Opening.{Task}
 use Rattle.desk.specs.declared.Reply.{Reply}
-use Rattle.desk.specs.declared.Reply.TheVariants.{Took, Brought, Found, NoPath, Wait, Read, Refused}
+use Rattle.desk.specs.declared.Reply.TheVariants.{Took, Brought, Found, NoPath, Wait, Read}
 use Rattle.desk.specs.Reply.{value_of}
 use Rattle.desk.specs.Path.{path_of}
-use Rattle.desk.specs.Calls.{Event, take, bring, replies}
+use Rattle.desk.specs.declared.Event.{Event}
+use Rattle.desk.specs.declared.Event.TheVariants.{Take as take, Bring as bring}
+use Rattle.desk.specs.Calls.{replies}
 use Rattle.report.specs.Text.{printed}
 use Rattle.runs.specs.Definitions.{definitions}
-use Rattle.runs.specs.Tasks.{passages, zeros, ones, h, task_with, task_a, task_b, task_c, refusal, run, end, events_a, lines}
+use Rattle.runs.specs.Tasks.{passages, zeros, ones, h, task_with, task_a, task_b, task_c, refusal, run, end, events_a, lines, refused_by}
 
 -- "Task A as a task file": the bytes, a record a line
 abbrev file_a : List ℕ
@@ -91,7 +93,7 @@ pub record Starred : Type 0 where
   -- A2 "That path from place 1 of 6 places: 5."
   pub A2 : reading task_a events_a (replicate 6 9) 1 ≡ (Read 5, 9 ∷ 0 ∷ 1 ∷ 2 ∷ 3 ∷ 4 ∷ [])
   -- A3 "From place 2: 15."
-  pub A3 : reading task_a events_a (replicate 6 9) 2 ≡ (Refused 15, replicate 6 9)
+  pub A3 : reading task_a events_a (replicate 6 9) 2 ≡ (refused_by 15, replicate 6 9)
   -- B1 "Task B, E 300, T0 B0 T0 T1: the last is Took 2"; B2 "E 299: Wait."
   pub B1 : run (task_b 300) events_b ≡ Took 0 ∷ Brought 2 ∷ Took 1 ∷ Took 2 ∷ []
   pub B2 : run (task_b 299) events_b ≡ Took 0 ∷ Brought 2 ∷ Took 1 ∷ Wait 1 ∷ []
@@ -103,13 +105,13 @@ pub record Starred : Type 0 where
   pub C1 : run (task_c 1 0 (replicate 1 0)) (take 0 ∷ []) ≡ Found 0 ∷ []
   pub C1-path : reading (task_c 1 0 (replicate 1 0)) (take 0 ∷ []) (replicate 1 9) 0 ≡ (Read 1, 0 ∷ [])
   -- C2 "n 2, 0 to 1, T0 B0 T0 T0: Took 0, Brought 0, NoPath, then 10."
-  pub C2 : run (task_c 2 1 (replicate 4 0)) (take 0 ∷ bring 0 ∷ take 0 ∷ take 0 ∷ []) ≡ Took 0 ∷ Brought 0 ∷ NoPath ∷ Refused 10 ∷ []
+  pub C2 : run (task_c 2 1 (replicate 4 0)) (take 0 ∷ bring 0 ∷ take 0 ∷ take 0 ∷ []) ≡ Took 0 ∷ Brought 0 ∷ NoPath ∷ refused_by 10 ∷ []
   -- C3 "W 101, E 100: 3." C4 "A with h(1,2) = 1: 7." C5 "A with h(3,4) = 2: 6."
-  pub C3 : refusal (task_with zeros 101 100) ≡ Refused 3
-  pub C4 : refusal (task_with (h 1 2 1 zeros) 100 100) ≡ Refused 7
-  pub C5 : refusal (task_with (h 3 4 2 zeros) 100 100) ≡ Refused 6
+  pub C3 : refusal (task_with zeros 101 100) ≡ refused_by 3
+  pub C4 : refusal (task_with (h 1 2 1 zeros) 100 100) ≡ refused_by 7
+  pub C5 : refusal (task_with (h 3 4 2 zeros) 100 100) ≡ refused_by 6
   -- C6 "B0 as first call: 11."
-  pub C6 : run task_a (bring 0 ∷ []) ≡ Refused 11 ∷ []
+  pub C6 : run task_a (bring 0 ∷ []) ≡ refused_by 11 ∷ []
 
 pub starred : Starred
 unfolding definitions

@@ -8,7 +8,9 @@ use Rattle.desk.specs.declared.Reply.TheVariants.{Took, Brought, Found, NoPath, 
 use Rattle.desk.specs.Machine.{with_phase, mark_of, label_of}
 use Rattle.desk.specs.Reply.{answer, value_of}
 use Rattle.desk.specs.Path.{path_of}
-use Rattle.desk.specs.Calls.{Event, take, bring, call}
+use Rattle.desk.specs.declared.Event.{Event}
+use Rattle.desk.specs.declared.Event.TheVariants.{Take as take, Bring as bring}
+use Rattle.desk.specs.Calls.{call}
 use Rattle.desk.specs.Morning.{events_of}
 use Rattle.runs.specs.Definitions.{definitions}
 use Rattle.runs.specs.Tasks.{passages, zeros, h, task_with, task_a, task_c, opened, run, end}

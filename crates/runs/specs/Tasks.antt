@@ -5,8 +5,11 @@ use Prim.Native.String.{String, [] as nothing, ◌∷◌ as ◌before◌}
 use Rattle.checks.specs.Opening.{Task, task}
 use Rattle.desk.specs.declared.Machine.{Machine}
 use Rattle.desk.specs.declared.Reply.{Reply}
+use Rattle.desk.specs.Reply.{refusal as refused_case, reply_with}
 use Rattle.desk.specs.Opening.{opening_of}
-use Rattle.desk.specs.Calls.{Event, take, bring, replies, after}
+use Rattle.desk.specs.declared.Event.{Event}
+use Rattle.desk.specs.declared.Event.TheVariants.{Take as take, Bring as bring}
+use Rattle.desk.specs.Calls.{replies, after}
 
 -- "passages in order 0→1 cost 2, 0→2 cost 5, 1→2 cost 1, 2→3 cost 2, 1→4 cost 9, 3→4 cost 1"
 abbrev pub passages : List ℕ
@@ -47,6 +50,10 @@ task_b excess = task_with ones 100 excess
 -- "C1 and C2 have k 1, W = E = 100, estimates 0, no passages"
 abbrev pub task_c : ℕ → ℕ → List ℕ → Task
 task_c n goal estimates = task n 1 0 goal 100 100 [] estimates
+
+-- the reply of a refused call, by the number that the documents give the refusal
+abbrev pub refused_by : ℕ → Reply
+refused_by number = reply_with refused_case number
 
 -- a run: the machine that opening hands back, the replies from there, and the machine last handed back
 abbrev pub opened : Task → Machine

@@ -1,5 +1,9 @@
 -- Each contract of this crate determines its answer. What that is, and how a line here is read, says `crates/determined/specs/Fixes.antt`.
 -- Assumes nothing.
+use mir.Syntax.{w64}
+use mir.Val.{Fits}
+use denote.RattleType.{RattleType}
+use Rattle.std.specs.Prelude.{ℕ}
 use Rattle.determined.specs.Fixes.{Fixes, Answers, same}
 use Rattle.taskfile.specs.contracts as c
 use Rattle.taskfile.proofs as f
@@ -12,26 +16,26 @@ pub write : Answers c.write.ended f.write.Reads.Asked f.write.Reads.Learnt
 write = (λ κs a. tt, λ κs a x y p q i. (same p.0 q.0 i, (tt, (tt, (tt, (tt, (same p.1 q.1 i, tt)))))))
 
 -- records.rt
-pub stopped : Answers c.records.stopped.ended f.records.stopped.Reads.Asked f.records.stopped.Reads.Learnt
-stopped = (λ κs a. tt, λ κs a x y p q i. (same p q i, x.1))
-
-pub complete : Answers c.records.complete.ended f.records.complete.Reads.Asked f.records.complete.Reads.Learnt
+pub complete : Answers c.Scan.complete.ended f.Scan.complete.Reads.Asked f.Scan.complete.Reads.Learnt
 complete = (λ κs a. tt, λ κs a x y p q i. (same p q i, x.1))
 
-pub head_at : Fixes c.records.head_at.ended f.records.head_at.Reads.Learnt
-head_at κs a x y p q i = (same p q i, x.1)
+pub length : Answers c.records.Record.length.ended f.records.Record.length.Reads.Asked f.records.Record.length.Reads.Learnt
+length = (λ κs a. tt, λ κs a x y p q i. (same p q i, x.1))
 
-pub passage_at : Fixes c.records.passage_at.ended f.records.passage_at.Reads.Learnt
-passage_at κs a x y p q i = (same p q i, x.1)
+pub head : Answers c.records.Record.head.ended f.records.Record.head.Reads.Asked f.records.Record.head.Reads.Learnt
+head = (λ κs a. tt, λ κs a x y p q i. (same p q i, x.1))
 
-pub row_at : Fixes c.records.row_at.ended f.records.row_at.Reads.Learnt
-row_at κs a x y p q i = (same p q i, x.1)
+pub passage : Answers c.records.Record.passage.ended f.records.Record.passage.Reads.Asked f.records.Record.passage.Reads.Learnt
+passage = (λ κs a. tt, λ κs a x y p q i. (same p q i, x.1))
 
-pub call_at : Fixes c.records.call_at.ended f.records.call_at.Reads.Learnt
-call_at κs a x y p q i = (same p q i, x.1)
+pub row : Fixes c.records.Record.row.ended f.records.Record.row.Reads.Learnt
+row κs a x y p q i = (same p q i, x.1)
 
-pub record_at : Fixes c.records.record_at.ended f.records.record_at.Reads.Learnt
-record_at κs a x y p q i = (same p q i, x.1)
+pub call : Fixes c.records.Record.call.ended f.records.Record.call.Reads.Learnt
+call κs a x y p q i = (same p q i, x.1)
+
+pub read_record : Fixes c.records.Record.read.ended f.records.Record.read.Reads.Learnt
+read_record κs a x y p q i = (same p q i, x.1)
 
 pub advance : Fixes c.records.advance.ended f.records.advance.Reads.Learnt
 advance κs a x y p q i = (same p q i, x.1)
@@ -40,38 +44,63 @@ pub scan : Fixes c.records.scan.ended f.records.scan.Reads.Learnt
 scan κs a x y p q i = (same p q i, x.1)
 
 -- fill.rt
-pub contents : Fixes c.fill.contents.ended f.fill.contents.Reads.Learnt
-contents κs a x y p q i = (same p q i, x.1)
-
-pub roomy : Fixes c.fill.roomy.ended f.fill.roomy.Reads.Learnt
-roomy κs a x y p q i = (same p q i, x.1)
-
-pub put_passages : Fixes c.fill.put_passages.ended f.fill.put_passages.Reads.Learnt
-put_passages κs a x y p q i = (tt, (tt, (tt, (same p q i, tt))))
+pub passage_from : Fixes c.fill.passage.ended f.fill.passage.Reads.Learnt
+passage_from κs a x y p q i = (same p q i, x.1)
 
 pub put_row : Fixes c.fill.put_row.ended f.fill.put_row.Reads.Learnt
-put_row κs a x y p q i = (tt, (tt, (tt, (tt, (same p q i, (tt, tt))))))
-
-pub put_rows : Fixes c.fill.put_rows.ended f.fill.put_rows.Reads.Learnt
-put_rows κs a x y p q i = (tt, (tt, (tt, (tt, (same p q i, tt)))))
+put_row κs a x y p q i = (tt, (tt, (tt, (same p q i, tt))))
 
 pub worker : Fixes c.fill.worker.ended f.fill.worker.Reads.Learnt
-worker κs a x y p q i = (same p.0 q.0 i, x.1)
+worker κs a x y p q i = (same p q i, x.1)
 
-pub put_calls : Fixes c.fill.put_calls.ended f.fill.put_calls.Reads.Learnt
-put_calls κs a x y p q i = (tt, (tt, (tt, (tt, (tt, (same p q i, tt))))))
+pub contents : Answers c.fill.Whole.contents.ended f.fill.Whole.contents.Reads.Asked f.fill.Whole.contents.Reads.Learnt
+contents = (λ κs a. tt, λ κs a x y p q i. (same p q i, x.1))
+
+pub roomy : Answers c.fill.Whole.roomy.ended f.fill.Whole.roomy.Reads.Asked f.fill.Whole.roomy.Reads.Learnt
+roomy = (λ κs a. tt, λ κs a x y p q i. (same p q i, x.1))
+
+pub put_passages : Fixes c.fill.Whole.put_passages.ended f.fill.Whole.put_passages.Reads.Learnt
+put_passages κs a x y p q i = (tt, (tt, (same p q i, tt)))
+
+pub put_rows : Fixes c.fill.Whole.put_rows.ended f.fill.Whole.put_rows.Reads.Learnt
+put_rows κs a x y p q i = (tt, (tt, (same p q i, tt)))
+
+pub put_calls : Fixes c.fill.Whole.put_calls.ended f.fill.Whole.put_calls.Reads.Learnt
+put_calls κs a x y p q i = (tt, (tt, (same p q i, tt)))
 
 -- bytes.rt
-pub byte : Fixes c.bytes.byte.ended f.bytes.byte.Reads.Learnt
-byte κs a x y p q i = (same p.0 q.0 i, x.1)
-
 pub word : Fixes c.bytes.word.ended f.bytes.word.Reads.Learnt
-word κs a x y p q i = (same p.0 q.0 i, x.1)
+word κs a x y p q i = (same p q i, x.1)
 
 pub long : Fixes c.bytes.long.ended f.bytes.long.Reads.Learnt
 long κs a x y p q i = (same p q i, x.1)
 
+-- layout.rt
+pub kind : Answers c.layout.RecordKindTryFromU16.try_from.ended f.layout.RecordKindTryFromU16.try_from.Reads.Asked f.layout.RecordKindTryFromU16.try_from.Reads.Learnt
+kind = (λ κs a. tt, λ κs a x y p q i. (same p q i, x.1))
+
+pub kind_number : Answers c.layout.UsizeFromRecordKind.from.ended f.layout.UsizeFromRecordKind.from.Reads.Asked f.layout.UsizeFromRecordKind.from.Reads.Learnt
+kind_number = (λ κs a. tt, λ κs a x y p q i. (same p q i, x.1))
+
+pub row_length : Fixes c.layout.row_length.ended f.layout.row_length.Reads.Learnt
+row_length κs a x y p q i = (same p q i, x.1)
+
+pub passage_place : Fixes c.layout.passage_place.ended f.layout.passage_place.Reads.Learnt
+passage_place κs a x y p q i = (same p q i, x.1)
+
+pub row_place : Fixes c.layout.row_place.ended f.layout.row_place.Reads.Learnt
+row_place κs a x y p q i = (same p q i, x.1)
+
+pub call_place : Fixes c.layout.call_place.ended f.layout.call_place.Reads.Learnt
+call_place κs a x y p q i = (same p q i, x.1)
+
 -- carry.rt
+pub carried : Answers c.carry.Task.carried.ended f.carry.Task.carried.Reads.Asked f.carry.Task.carried.Reads.Learnt
+carried = (λ κs a. tt, λ κs a x y p q i. (same p q i, x.1))
+
+pub writable : Answers c.carry.Task.writable.ended f.carry.Task.writable.Reads.Asked f.carry.Task.writable.Reads.Learnt
+writable = (λ κs a. tt, λ κs a x y p q i. (same p q i, x.1))
+
 pub sizes_carried : Answers c.carry.sizes_carried.ended f.carry.sizes_carried.Reads.Asked f.carry.sizes_carried.Reads.Learnt
 sizes_carried = (λ κs a. tt, λ κs a x y p q i. (same p q i, x.1))
 
@@ -90,57 +119,52 @@ call_carried = (λ κs a. tt, λ κs a x y p q i. (same p q i, x.1))
 pub calls_carried : Answers c.carry.calls_carried.ended f.carry.calls_carried.Reads.Asked f.carry.calls_carried.Reads.Learnt
 calls_carried = (λ κs a. tt, λ κs a x y p q i. (same p q i, x.1))
 
-pub carried : Answers c.carry.carried.ended f.carry.carried.Reads.Asked f.carry.carried.Reads.Learnt
-carried = (λ κs a. tt, λ κs a x y p q i. (same p q i, x.1))
-
 pub file_small : Answers c.carry.file_small.ended f.carry.file_small.Reads.Asked f.carry.file_small.Reads.Learnt
 file_small = (λ κs a. tt, λ κs a x y p q i. (same p q i, x.1))
 
-pub fault : Answers c.carry.fault.ended f.carry.fault.Reads.Asked f.carry.fault.Reads.Learnt
-fault = (λ κs a. tt, λ κs a x y p q i. (same p q i, x.1))
-
-pub file_length : Fixes c.carry.file_length.ended f.carry.file_length.Reads.Learnt
-file_length κs a x y p q i = (same p q i, x.1)
-
 -- put.rt
-pub put_byte : Fixes c.put.put_byte.ended f.put.put_byte.Reads.Learnt
-put_byte κs a x y p q i = (tt, (same p q i, (tt, (tt, tt))))
 
-pub put_word : Fixes c.put.put_word.ended f.put.put_word.Reads.Learnt
-put_word κs a x y p q i = (tt, (same p q i, (tt, (tt, tt))))
+-- at each width
+pub put : (t : RattleType) (width : ℕ) (fits : Fits w64 width) → Fixes (c.put.Cursor.put.ended t) (f.put.Cursor.put.Reads.Learnt width fits)
+put t width fits κs a x y p q i = (tt, (same p.after q.after i, (tt, tt)))
 
-pub put_long : Fixes c.put.put_long.ended f.put.put_long.Reads.Learnt
-put_long κs a x y p q i = (tt, (same p q i, (tt, (tt, tt))))
+pub put_length_and_kind : Fixes c.put.Cursor.put_length_and_kind.ended f.put.Cursor.put_length_and_kind.Reads.Learnt
+put_length_and_kind κs a x y p q i = (tt, (same p.after q.after i, (tt, (tt, tt))))
 
-pub put_length_and_kind : Fixes c.put.put_length_and_kind.ended f.put.put_length_and_kind.Reads.Learnt
-put_length_and_kind κs a x y p q i = (tt, (same p q i, (tt, (tt, (tt, tt)))))
+pub put_head : Fixes c.put.Cursor.put_head.ended f.put.Cursor.put_head.Reads.Learnt
+put_head κs a x y p q i = (tt, (same p.after q.after i, (tt, tt)))
 
-pub put_head : Fixes c.put.put_head.ended f.put.put_head.Reads.Learnt
-put_head κs a x y p q i = (tt, (same p q i, (tt, tt)))
+pub write_passage : Fixes c.put.Cursor.put_passage.ended f.put.Cursor.put_passage.Reads.Learnt
+write_passage κs a x y p q i = (tt, (same p.after q.after i, (tt, tt)))
 
-pub put_passage_record : Fixes c.put.put_passage_record.ended f.put.put_passage_record.Reads.Learnt
-put_passage_record κs a x y p q i = (tt, (same p q i, (tt, (tt, (tt, tt)))))
+pub write_passages : Fixes c.put.Cursor.put_passages.ended f.put.Cursor.put_passages.Reads.Learnt
+write_passages κs a x y p q i = (tt, (same p.after q.after i, (tt, tt)))
 
-pub put_passage_records : Fixes c.put.put_passage_records.ended f.put.put_passage_records.Reads.Learnt
-put_passage_records κs a x y p q i = (tt, (same p q i, (tt, tt)))
+pub put_estimates : Fixes c.put.Cursor.put_estimates.ended f.put.Cursor.put_estimates.Reads.Learnt
+put_estimates κs a x y p q i = (tt, (same p.after q.after i, (tt, tt)))
 
-pub put_estimates : Fixes c.put.put_estimates.ended f.put.put_estimates.Reads.Learnt
-put_estimates κs a x y p q i = (tt, (same p q i, (tt, (tt, (tt, (tt, tt))))))
+pub write_row : Fixes c.put.Cursor.put_row.ended f.put.Cursor.put_row.Reads.Learnt
+write_row κs a x y p q i = (tt, (same p.after q.after i, (tt, (tt, tt))))
 
-pub put_row_record : Fixes c.put.put_row_record.ended f.put.put_row_record.Reads.Learnt
-put_row_record κs a x y p q i = (tt, (same p q i, (tt, (tt, (tt, (tt, tt))))))
+pub write_rows : Fixes c.put.Cursor.put_rows.ended f.put.Cursor.put_rows.Reads.Learnt
+write_rows κs a x y p q i = (tt, (same p.after q.after i, (tt, (tt, tt))))
 
-pub put_row_records : Fixes c.put.put_row_records.ended f.put.put_row_records.Reads.Learnt
-put_row_records κs a x y p q i = (tt, (same p q i, (tt, (tt, (tt, tt)))))
+pub put_worker : Fixes c.put.Cursor.put_worker.ended f.put.Cursor.put_worker.Reads.Learnt
+put_worker κs a x y p q i = (tt, (same p.after q.after i, (tt, tt)))
 
-pub put_worker : Fixes c.put.put_worker.ended f.put.put_worker.Reads.Learnt
-put_worker κs a x y p q i = (tt, (same p q i, (tt, (tt, tt))))
+pub write_call : Fixes c.put.Cursor.put_call.ended f.put.Cursor.put_call.Reads.Learnt
+write_call κs a x y p q i = (tt, (same p.after q.after i, (tt, tt)))
 
-pub put_call_record : Fixes c.put.put_call_record.ended f.put.put_call_record.Reads.Learnt
-put_call_record κs a x y p q i = (tt, (same p q i, (tt, (tt, (tt, tt)))))
+pub write_calls : Fixes c.put.Cursor.put_calls.ended f.put.Cursor.put_calls.Reads.Learnt
+write_calls κs a x y p q i = (tt, (same p.after q.after i, (tt, tt)))
 
-pub put_call_records : Fixes c.put.put_call_records.ended f.put.put_call_records.Reads.Learnt
-put_call_records κs a x y p q i = (tt, (same p q i, (tt, (tt, tt))))
+pub put_file : Fixes c.carry.Task.put.ended f.carry.Task.put.Reads.Learnt
+put_file κs a x y p q i = (same p.0 q.0 i, (tt, (same p.1 q.1 i, tt)))
 
-pub put_file : Fixes c.put.put_file.ended f.put.put_file.Reads.Learnt
-put_file κs a x y p q i = (same p.0 q.0 i, (same p.1 q.1 i, (tt, (tt, (tt, (tt, tt))))))
+-- faults.rt
+
+pub fault_number : Answers c.faults.U8FromFaultKind.from.ended f.faults.U8FromFaultKind.from.Reads.Asked f.faults.U8FromFaultKind.from.Reads.Learnt
+fault_number = (λ κs a. tt, λ κs a x y p q i. (same p q i, x.1))
+
+pub unwritable_number : Answers c.faults.U8FromUnwritable.from.ended f.faults.U8FromUnwritable.from.Reads.Asked f.faults.U8FromUnwritable.from.Reads.Learnt
+unwritable_number = (λ κs a. tt, λ κs a x y p q i. (same p q i, x.1))

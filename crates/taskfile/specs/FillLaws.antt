@@ -1,13 +1,18 @@
--- What the loops that fill the lent slices and the buffer know: the pieces put so far stand one after the other, from a place on.
+-- What the loops that fill the lent slices know: the pieces put so far stand one after the other, from a place on.
 -- Assumes nothing.
-use Rattle.std.specs.Prelude.{◌≡◌, refl, List, [], ◌∷◌, ℕ, suc, ◌+◌, ◌*◌, ◌≤◌, ◌<◌, length, set}
-use Rattle.std.proofs.Common.{◌∙◌, suc-mul, mul-le-mul_right, arith, length-set}
+use Rattle.std.specs.Prelude.{◌≡◌, refl, List, [], ◌∷◌, ℕ, suc, ◌+◌, ◌*◌, ◌≤◌, ◌<◌, length}
+use Rattle.std.proofs.Common.{◌∙◌, suc-mul, mul-le-mul_right, arith, drop-drop}
+use borrow.Rule.Slice.PartMut.{put_mid}
 use Rattle.laws.specs.Part.{overlaid}
 use Rattle.laws.specs.Fill.{made, made_length}
 use Rattle.laws.specs.Gather.{gathered, gathered_even}
-use Rattle.laws.specs.Put.{Put, put_one, put_three, put_length, put_started, put_piece}
-use Rattle.taskfile.specs.Bytes.{word, long}
-use Rattle.taskfile.specs.Records.{passage_place, row_place}
+use Rattle.laws.specs.Put.{Put, put_length, put_started, put_piece}
+use Rattle.taskfile.specs.Bytes.{byte, number_at, word, long}
+use Rattle.taskfile.specs.Records.{worker_width, event_of, passage_place, row_place, call_place}
+
+-- a part of a list, overwritten by a list as long
+pub put_part : {X : Type 0} (at k : ℕ) (l xs ys : List X) → xs ≡ ys → length ys ≡ k → put_mid at k l xs ≡ overlaid at ys l
+put_part at k l xs ys e long = rw (e, ← long, drop-drop (length ys) at l)
 
 -- the three numbers of passage i; the n estimates of the row whose record starts at `at`, and of row r
 unfoldable pub passage_in : List ℕ → ℕ → List ℕ
@@ -18,6 +23,10 @@ row_from file at n = made (λ c. long file (at + 6 + 4 * c)) n
 
 unfoldable pub row_in : List ℕ → ℕ → ℕ → ℕ → List ℕ
 row_in file passages n r = row_from file (row_place passages n r) n
+
+-- call i, as one number
+abbrev pub call_in : List ℕ → ℕ → ℕ → ℕ → ℕ
+call_in file passages n i = event_of (byte file (call_place passages n i + 4)) (number_at worker_width file (call_place passages n i + 5))
 
 -- pieces that are w long each, put one after another to a slice from a place on, which has kept its length
 pub record Stacked (f : ℕ → List ℕ) (w at : ℕ) (l₀ l : List ℕ) (i : ℕ) : Type 0 where
@@ -39,33 +48,20 @@ module _ (f : ℕ → List ℕ) (w : ℕ) (each : (i : ℕ) → length (f i) ≡
 pub stacked_end : (f : ℕ → List ℕ) (w at : ℕ) (l₀ l : List ℕ) (i n : ℕ) → Stacked f w at l₀ l i → i ≤ n → n ≤ i → l ≡ overlaid at (gathered f n) l₀
 stacked_end f w at l₀ l i n s a b = let q : i ≡ n = omega arith in rw q at s.text.done
 
--- three places in a row stored
-put_triple : (at : ℕ) (l : List ℕ) (a b c : ℕ) → at + 3 ≤ length l → Put at (a ∷ b ∷ c ∷ []) l (set (set (set l at a) (at + 1) b) (at + 2) c) (at + 3)
-put_triple at l a b c h =
-    let l₁ = set l at a in
-    let l₂ = set l₁ (at + 1) b in
-    let long₁ : length l₁ ≡ length l = length-set l at a in
-    let long₂ : length l₂ ≡ length l₁ = length-set l₁ (at + 1) b in
-    put_three at (at + 1) (at + 2) (at + 3) (a ∷ []) (b ∷ []) (c ∷ []) l l₁ l₂ _ (put_one at a l (omega arith))
-    (record { done = (put_one (at + 1) b l₁ (omega arith)).done; next = omega arith }) (record { done = (put_one (at + 2) c l₂ (omega arith)).done; next = omega arith }) (omega arith)
-
 -- passages are three numbers each
-passage_length_lem : (file : List ℕ) (i : ℕ) → length (passage_in file i) ≡ 3
+pub passage_length_lem : (file : List ℕ) (i : ℕ) → length (passage_in file i) ≡ 3
 unfolding passage_in
 passage_length_lem file i = refl
 
 pub passages_zero : (file l : List ℕ) → Stacked (passage_in file) 3 0 l l 0
 passages_zero file l = stacked_zero (passage_in file) 3 (passage_length_lem file) 0 l
 
-pub passages_more : (file l₀ l : List ℕ) (i : ℕ) → Stacked (passage_in file) 3 0 l₀ l i → 3 * i + 3 ≤ length l₀ → (a b c : ℕ) → a ≡ word file (passage_place i + 4) → b ≡ word file (passage_place i + 6) → c ≡ long file (passage_place i + 8)
-    → Stacked (passage_in file) 3 0 l₀ (set (set (set l (3 * i) a) (3 * i + 1) b) (3 * i + 2) c) (i + 1)
-unfolding passage_in
-passages_more file l₀ l i s room a b c p q r =
-    stacked_more (passage_in file) 3 (passage_length_lem file) 0 l₀ l _ i (3 * i) s (omega arith) (omega arith) (rw (← p, ← q, ← r) (put_triple (3 * i) l a b c (omega (arith, s.kept))).done)
+pub passages_more : (file l₀ l l' : List ℕ) (i : ℕ) → Stacked (passage_in file) 3 0 l₀ l i → 3 * i + 3 ≤ length l₀ → l' ≡ overlaid (3 * i) (passage_in file i) l → Stacked (passage_in file) 3 0 l₀ l' (i + 1)
+passages_more file l₀ l l' i s room e = stacked_more (passage_in file) 3 (passage_length_lem file) 0 l₀ l l' i (3 * i) s (omega arith) (omega arith) e
 
 -- rows are n estimates each
 module _ (file : List ℕ) (passages n : ℕ) (l₀ : List ℕ) where
-  row_length_lem : (r : ℕ) → length (row_in file passages n r) ≡ n
+  pub row_length_lem : (r : ℕ) → length (row_in file passages n r) ≡ n
   unfolding row_in
   row_length_lem r = made_length _ n
 

@@ -1,24 +1,14 @@
 -- Order 6, "Write the task file too": "Write a task and a list of events as a task file into a lent buffer; the bytes after it stay."
-use Rattle.std.specs.Prelude.{Bool, ◌&&◌, List, ◌++◌, ℕ, ◌+◌, ◌*◌, ◌/◌, ◌%◌, length, get_or, ltb, leb, eqb}
+use Rattle.std.specs.Prelude.{Bool, ◌&&◌, List, ◌++◌, ℕ, ◌+◌, ◌*◌, ◌/◌, ◌%◌, length, get_or, ltb, leb, eqb, Result, Ok, Err}
 use Rattle.laws.specs.Truth.{provided}
 use Rattle.laws.specs.All.{all}
 use Rattle.laws.specs.Part.{overlaid}
 use Rattle.laws.specs.Gather.{gathered}
 use Rattle.taskfile.specs.declared.Head.{Head}
-use Rattle.taskfile.specs.declared.Filed.{Filed}
-use Rattle.taskfile.specs.declared.Filed.TheVariants.{Written, Refused}
+use Rattle.taskfile.specs.declared.faults.Unwritable.{Unwritable}
+use Rattle.taskfile.specs.declared.faults.Unwritable.TheVariants.{Uncarried, FileTooLarge, ShortBuffer}
 use Rattle.taskfile.specs.Bytes.{bytes_of, beyond}
 use Rattle.taskfile.specs.Records.{head_kind, passage_kind, row_kind, call_kind, worker_width, call_of, worker_of, most_states, most_passages, most_bytes}
-
--- the refusals' numbers: 24 a task or event that the file can't carry; 25 a file above 65,536 bytes; 26 buffer too short
-abbrev pub uncarried : ℕ
-uncarried = 24
-
-abbrev pub file_too_large : ℕ
-file_too_large = 25
-
-abbrev pub short_buffer : ℕ
-short_buffer = 26
 
 -- a number fits so many bytes
 abbrev pub within : ℕ → ℕ → Bool
@@ -68,19 +58,19 @@ unfoldable pub file_of : Head → List ℕ → List ℕ → List ℕ → List �
 file_of t passages estimates calls =
     head_record t ++ (gathered (passage_record passages) (length passages / 3) ++ (gathered (row_record estimates t.n) t.n ++ gathered (call_record calls) (length calls)))
 
--- what is replied, and what the buffer then holds
+-- what is replied, the file's length where it was written, and what the buffer then holds
 pub record FileWriting : Type 0 where
-  pub reply : Filed
+  pub reply : Result ℕ Unwritable
   pub buffer : List ℕ
 
-abbrev pub unwritten : ℕ → List ℕ → FileWriting
-unwritten number buffer = record { reply = Refused number; buffer = buffer }
+abbrev pub unwritten : Unwritable → List ℕ → FileWriting
+unwritten refusal buffer = record { reply = Err refusal; buffer = buffer }
 
 -- "Refusals, in order: 24 …, 25 a file above 65,536 bytes, 26 buffer too short."
 unfoldable pub write_of : Head → List ℕ → List ℕ → List ℕ → List ℕ → FileWriting
 write_of t passages estimates calls buffer =
     let file = file_of t passages estimates calls in
-    provided (carried t passages estimates calls) (unwritten uncarried buffer)
-    (provided (leb (length file) most_bytes) (unwritten file_too_large buffer)
-    (provided (leb (length file) (length buffer)) (unwritten short_buffer buffer)
-    (record { reply = Written (length file); buffer = overlaid 0 file buffer })))
+    provided (carried t passages estimates calls) (unwritten Uncarried buffer)
+    (provided (leb (length file) most_bytes) (unwritten FileTooLarge buffer)
+    (provided (leb (length file) (length buffer)) (unwritten ShortBuffer buffer)
+    (record { reply = Ok (length file); buffer = overlaid 0 file buffer })))

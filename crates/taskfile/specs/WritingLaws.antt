@@ -1,17 +1,17 @@
 -- Laws about what is written: how long numbers, records and the file are, a number from two narrower ones, and writing case by case.
 -- Assumes nothing.
-use Rattle.std.specs.Prelude.{◌≡◌, refl, Bool, true, false, ◌&&◌, List, ◌∷◌, ◌++◌, ℕ, zero, suc, ◌+◌, ◌*◌, ◌/◌, ◌%◌, ◌≤◌, length, get_or, leb}
-use Rattle.std.proofs.Common.{sym, ap, ◌∙◌, suc-add, zero-add, mul-le-mul_left, div-one, arith, length-append}
-use Rattle.std.proofs.Math.Nat.{div-div-eq-div-mul}
+use Rattle.std.specs.Prelude.{◌≡◌, refl, Bool, true, false, ◌&&◌, List, ◌++◌, ℕ, zero, suc, ◌+◌, ◌*◌, ◌/◌, ◌≤◌, length, get_or, leb, Result, Ok, Err}
+use Rattle.std.proofs.Common.{ap, ◌∙◌, mul-le-mul_left, arith, length-append}
 use borrow.Author.Tests.{leb-true, le-leb}
-use Rattle.laws.specs.Truth.{provided, provided_kept}
+use Rattle.laws.specs.Truth.{provided}
 use Rattle.laws.specs.Part.{overlaid}
 use Rattle.laws.specs.Gather.{gathered, gathered_even}
 use Rattle.taskfile.specs.declared.Head.{Head}
-use Rattle.taskfile.specs.declared.Filed.TheVariants.{Written}
+use Rattle.taskfile.specs.declared.faults.Unwritable.{Unwritable}
+use Rattle.taskfile.specs.declared.faults.Unwritable.TheVariants.{Uncarried, FileTooLarge, ShortBuffer}
 use Rattle.taskfile.specs.Bytes.{bytes_of, beyond}
 use Rattle.taskfile.specs.Records.{payload_place, head_kind, head_length, passage_kind, passage_length, row_kind, row_length, call_kind, worker_width, call_length, call_of, worker_of, most_bytes, call_place}
-use Rattle.taskfile.specs.Writing.{uncarried, file_too_large, short_buffer, within, carried, record_of, head_record, passage_record, row_record, call_record, file_of, FileWriting, unwritten, write_of}
+use Rattle.taskfile.specs.Writing.{within, carried, record_of, head_record, passage_record, row_record, call_record, file_of, unwritten, write_of}
 use Rattle.taskfile.specs.CarriedLaws.{Carried, is_carried, carried_is}
 
 -- the first numbers that one byte and two bytes can't hold
@@ -29,12 +29,6 @@ unfolding bytes_of
 bytes_length zero x = refl
 bytes_length (suc width) x = ap suc (bytes_length width (x / 256))
 
--- the low bytes of a number, then its high ones
-pub bytes_split : (low high x : ℕ) → bytes_of (low + high) x ≡ bytes_of low x ++ bytes_of high (x / beyond low)
-unfolding bytes_of beyond
-bytes_split zero high x = rw (zero-add, div-one)
-bytes_split (suc low) high x = rw (suc-add, ← div-div-eq-div-mul) (ap (λ (l : List ℕ). x % 256 ∷ l) (bytes_split low high (x / 256)))
-
 -- a record is its length and kind, then its payload
 pub record_length : (kind : ℕ) (payload : List ℕ) → length (record_of kind payload) ≡ payload_place + length payload
 record_length kind payload =
@@ -43,6 +37,10 @@ record_length kind payload =
 -- a row's estimates, from a place of the table on
 abbrev pub estimate_bytes : List ℕ → ℕ → ℕ → List ℕ
 estimate_bytes estimates from c = bytes_of 4 (get_or estimates (from + c) 0)
+
+-- the estimates of a row that stands alone
+abbrev pub row_bytes : List ℕ → List ℕ
+row_bytes row = gathered (λ c. bytes_of 4 (get_or row c 0)) (length row)
 
 -- the four payloads by their fields
 abbrev pub head_payload : Head → List ℕ
@@ -117,19 +115,14 @@ module _ (passages n calls : ℕ) where
 abbrev pub call_carried : ℕ → Bool
 call_carried event = leb (call_of event) 1 && within worker_width (worker_of event)
 
--- the number of the first refusal, into a buffer of so many places; 0 where none applies
-unfoldable pub writing_fault : Head → List ℕ → List ℕ → List ℕ → ℕ → ℕ
-writing_fault t passages estimates calls room =
-    let file = file_of t passages estimates calls in
-    provided (carried t passages estimates calls) uncarried (provided (leb (length file) most_bytes) file_too_large (provided (leb (length file) room) short_buffer 0))
+-- the first refusal, if there is one: by what is right, and of a task and events for a buffer of so many places
+abbrev pub first_refusal : Bool → Bool → Bool → Result (Unit {0}) Unwritable
+first_refusal right small fits = provided right (Err Uncarried) (provided small (Err FileTooLarge) (provided fits (Err ShortBuffer) (Ok tt)))
 
--- a ladder with its numbers and one with what is replied go down together: to a refusal, or to what is written
-ladder_refused : (right small fits : Bool) (written : FileWriting) (buffer : List ℕ) (number : ℕ) → number ≡ provided right uncarried (provided small file_too_large (provided fits short_buffer 0)) → (number ≡ 0 → ⊥)
-    → provided right (unwritten uncarried buffer) (provided small (unwritten file_too_large buffer) (provided fits (unwritten short_buffer buffer) written)) ≡ unwritten number buffer
-ladder_refused false small fits written buffer number e n = rw e
-ladder_refused true false fits written buffer number e n = rw e
-ladder_refused true true false written buffer number e n = rw e
-ladder_refused true true true written buffer number e n = absurd (n e)
+unfoldable pub writable : Head → List ℕ → List ℕ → List ℕ → ℕ → Result (Unit {0}) Unwritable
+writable t passages estimates calls room =
+    let file = file_of t passages estimates calls in
+    first_refusal (carried t passages estimates calls) (leb (length file) most_bytes) (leb (length file) room)
 
 -- a task and events that a file carries, and a buffer that has room for it
 pub record Writable (t : Head) (passages estimates calls : List ℕ) (room : ℕ) : Type 0 where
@@ -137,23 +130,37 @@ pub record Writable (t : Head) (passages estimates calls : List ℕ) (room : ℕ
   pub small : length (file_of t passages estimates calls) ≤ most_bytes
   pub roomy : length (file_of t passages estimates calls) ≤ room
 
-pub writable : (t : Head) (passages estimates calls : List ℕ) (room : ℕ) → 0 ≡ writing_fault t passages estimates calls room → Writable t passages estimates calls room
-unfolding writing_fault
-writable t passages estimates calls room e =
-    let file = file_of t passages estimates calls in
-    let (right, e₁) = provided_kept (carried t passages estimates calls) uncarried _ (λ q. omega arith) (sym e) in
-    let (small, e₂) = provided_kept (leb (length file) most_bytes) file_too_large _ (λ q. omega arith) e₁ in
-    let (roomy, e₃) = provided_kept (leb (length file) room) short_buffer _ (λ q. omega arith) e₂ in
-    record { right = is_carried t passages estimates calls right; small = leb-true _ _ small; roomy = leb-true _ _ roomy }
-
 module _ (t : Head) (passages estimates calls buffer : List ℕ) where
-  pub write_refused : (number : ℕ) → number ≡ writing_fault t passages estimates calls (length buffer) → (number ≡ 0 → ⊥) → write_of t passages estimates calls buffer ≡ unwritten number buffer
-  unfolding write_of writing_fault
-  write_refused number e n =
-      let file = file_of t passages estimates calls in
-      ladder_refused (carried t passages estimates calls) (leb (length file) most_bytes) (leb (length file) (length buffer)) (record { reply = Written (length file); buffer = overlaid 0 file buffer }) buffer number e n
+  -- a refusal is what is replied; and where there is none, nothing stands against it
+  pub write_refused : (refusal : Unwritable) → Err refusal ≡ writable t passages estimates calls (length buffer) → write_of t passages estimates calls buffer ≡ unwritten refusal buffer
+  unfolding write_of writable
+  write_refused refusal e = go (carried t passages estimates calls) (leb (length file) most_bytes) (leb (length file) (length buffer)) e
+    where
+      file : List ℕ
+      file = file_of t passages estimates calls
+
+      go : (right small fits : Bool) → Err refusal ≡ first_refusal right small fits
+          → provided right (unwritten Uncarried buffer) (provided small (unwritten FileTooLarge buffer) (provided fits (unwritten ShortBuffer buffer) (record { reply = Ok (length file); buffer = overlaid 0 file buffer }))) ≡ unwritten refusal buffer
+      go false small fits e = cc
+      go true false fits e = cc
+      go true true false e = cc
+      go true true true e = cc
+
+  pub write_allowed : Ok tt ≡ writable t passages estimates calls (length buffer) → Writable t passages estimates calls (length buffer)
+  unfolding writable
+  write_allowed e = go (carried t passages estimates calls) (leb (length file) most_bytes) (leb (length file) (length buffer)) refl refl refl e
+    where
+      file : List ℕ
+      file = file_of t passages estimates calls
+
+      go : (right small fits : Bool) → carried t passages estimates calls ≡ right → leb (length file) most_bytes ≡ small → leb (length file) (length buffer) ≡ fits
+          → Ok tt ≡ first_refusal right small fits → Writable t passages estimates calls (length buffer)
+      go false small fits p q r e = cc
+      go true false fits p q r e = cc
+      go true true false p q r e = cc
+      go true true true p q r e = record { right = is_carried t passages estimates calls p; small = leb-true _ _ q; roomy = leb-true _ _ r }
 
   pub write_written : Writable t passages estimates calls (length buffer)
-      → write_of t passages estimates calls buffer ≡ record { reply = Written (length (file_of t passages estimates calls)); buffer = overlaid 0 (file_of t passages estimates calls) buffer }
+      → write_of t passages estimates calls buffer ≡ record { reply = Ok (length (file_of t passages estimates calls)); buffer = overlaid 0 (file_of t passages estimates calls) buffer }
   unfolding write_of
   write_written c = rw (carried_is t passages estimates calls c.right, le-leb _ _ c.small, le-leb _ _ c.roomy)

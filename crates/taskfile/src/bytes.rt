@@ -1,29 +1,21 @@
-// Little-endian numbers.
+// Little-endian numbers, as a file carries them.
 ghost use Rattle.std.specs.Prelude.{◌≡◌, ◌+◌, ◌<◌, length};
-ghost use Rattle.taskfile.specs.Bytes.{byte, word, long};
+ghost use Rattle.taskfile.specs.Bytes.{word, long};
 
-// One byte.
-pub fn byte(file: &[u8], at: usize) -> usize
-    requires { at < length file.now }
-    ensures { (result ≡ byte file.now at) × (result < 256) }
-{
-    file[at] as usize
-}
-
-// Two bytes, the low one first.
-#[tactic(auto, using(crate::specs::BytesLaws::word_is))]
-pub fn word(file: &[u8], at: usize) -> usize
+// Two bytes, the low one first. For two and for four a function each, since what is read has a type of its own.
+#[tactic(auto, using(crate::specs::BytesLaws::word_from))]
+pub fn word(file: &[u8], at: usize) -> u16
     requires { at + 1 < length file.now }
-    ensures { (result ≡ word file.now at) × (result < 65536) }
+    ensures { result ≡ word file.now at }
 {
-    byte(file, at) + 256 * byte(file, at + 1)
+    u16::from_le_bytes([file[at], file[at + 1]])
 }
 
 // Four bytes, the lowest first.
-#[tactic(auto, using(crate::specs::BytesLaws::long_is))]
+#[tactic(auto, using(crate::specs::BytesLaws::long_from))]
 pub fn long(file: &[u8], at: usize) -> u32
     requires { at + 3 < length file.now }
     ensures { result ≡ long file.now at }
 {
-    (word(file, at) + 65536 * word(file, at + 2)) as u32
+    u32::from_le_bytes([file[at], file[at + 1], file[at + 2], file[at + 3]])
 }

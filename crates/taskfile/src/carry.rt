@@ -1,29 +1,61 @@
-// Whether a file can carry a task and its events, how long the file would be, and the number of the first refusal.
+// Whether a file can carry a task and its events, and what stands against writing them.
 ghost use Rattle.std.specs.Prelude.{◌≡◌, ◌≤◌, leb};
 ghost use Rattle.taskfile.specs.Records.{most_bytes, call_place};
 ghost use Rattle.taskfile.specs.Writing.{within, sizes_carried, head_carried, ends_carried, calls_carried, carried};
-ghost use Rattle.taskfile.specs.WritingLaws.{call_carried, writing_fault};
+ghost use Rattle.taskfile.specs.WritingLaws.{call_carried, writable};
 
-use super::{Head, faults};
+use super::layout::call_place;
+use super::{Head, MOST_BYTES, MOST_PASSAGES, MOST_STATES, PER_CALL, Unwritable};
+
+// A task and its events, as they are lent to be written.
+#[derive(Clone, Copy)]
+pub struct Task<'a> {
+    pub head: Head,
+    pub passages: &'a [u32],
+    pub estimates: &'a [u32],
+    pub calls: &'a [u32],
+}
+
+impl Task<'_> {
+    // A file can carry all of it.
+    #[tactic(auto, unfolding(crate::specs::Writing::carried))]
+    pub fn carried(&self) -> bool
+        ensures { result ≡ carried self.now.head self.now.passages.now self.now.estimates.now self.now.calls.now }
+    {
+        sizes_carried(self.head.n, self.passages.len(), self.estimates.len())
+            && head_carried(self.head)
+            && ends_carried(self.passages)
+            && calls_carried(self.calls)
+    }
+
+    // What stands against writing it to a buffer of so many places, if anything does.
+    #[tactic(auto, using(crate::specs::WritingLaws::file_length), unfolding(crate::specs::WritingLaws::writable))]
+    pub fn writable(&self, room: usize) -> Result<(), Unwritable>
+        ensures { result ≡ writable self.now.head self.now.passages.now self.now.estimates.now self.now.calls.now room }
+    {
+        let many = self.passages.len() / 3;
+        if !self.carried() {
+            return Err(Unwritable::Uncarried);
+        }
+        if !file_small(many, self.head.n, self.calls.len()) {
+            return Err(Unwritable::FileTooLarge);
+        }
+        if call_place(many, self.head.n, self.calls.len()) > room {
+            return Err(Unwritable::ShortBuffer);
+        }
+        Ok(())
+    }
+}
 
 // The number of states is 1 to 64, the passages are whole and at most 512, and the estimates are n × n.
 #[tactic(auto, unfolding(crate::specs::Writing::sizes_carried))]
 pub fn sizes_carried(n: usize, passages: usize, estimates: usize) -> bool
     ensures { result ≡ sizes_carried n passages estimates }
 {
-    if n < 1 {
-        return false;
-    }
-    if n > 64 {
-        return false;
-    }
-    if passages % 3 != 0 {
-        return false;
-    }
-    if passages / 3 > 512 {
-        return false;
-    }
-    estimates == n * n
+    (1..=MOST_STATES).contains(&n)
+        && passages % 3 == 0
+        && passages / 3 <= MOST_PASSAGES
+        && estimates == n * n
 }
 
 // A number that two bytes hold.
@@ -31,7 +63,7 @@ pub fn sizes_carried(n: usize, passages: usize, estimates: usize) -> bool
 pub fn fits_word(x: usize) -> bool
     ensures { result ≡ within 2 x }
 {
-    x < 65536
+    u16::try_from(x).is_ok()
 }
 
 // The head's other five numbers.
@@ -39,36 +71,19 @@ pub fn fits_word(x: usize) -> bool
 pub fn head_carried(head: Head) -> bool
     ensures { result ≡ head_carried head }
 {
-    if !fits_word(head.k) {
-        return false;
-    }
-    if !fits_word(head.start) {
-        return false;
-    }
-    if !fits_word(head.goal) {
-        return false;
-    }
-    if !fits_word(head.pull) {
-        return false;
-    }
-    fits_word(head.excess)
+    fits_word(head.k)
+        && fits_word(head.start)
+        && fits_word(head.goal)
+        && fits_word(head.pull)
+        && fits_word(head.excess)
 }
 
 // The ends of every passage.
-#[tactic(auto, unfolding(crate::specs::Writing::ends_carried))]
 pub fn ends_carried(passages: &[u32]) -> bool
     ensures { result ≡ ends_carried passages.now }
 {
-    let many = passages.len() / 3;
-    for i in 0..many {
-        if !fits_word(passages[3 * i] as usize) {
-            return false;
-        }
-        if !fits_word(passages[3 * i + 1] as usize) {
-            return false;
-        }
-    }
-    true
+    let (whole, _) = passages.as_chunks::<3>();
+    whole.iter().all(|&[from, to, _]| fits_word(from as usize) && fits_word(to as usize))
 }
 
 // An event that is a Take or a Bring, of a worker that one byte holds.
@@ -76,82 +91,22 @@ pub fn ends_carried(passages: &[u32]) -> bool
 pub fn call_carried(event: u32) -> bool
     ensures { result ≡ call_carried event }
 {
-    if event / 65536 > 1 {
-        return false;
-    }
-    event % 65536 < 256
+    event / PER_CALL <= 1 && u8::try_from(event % PER_CALL).is_ok()
 }
 
 // Every event.
-#[tactic(auto, unfolding(crate::specs::Writing::calls_carried))]
 pub fn calls_carried(calls: &[u32]) -> bool
     ensures { result ≡ calls_carried calls.now }
 {
-    for i in 0..calls.len() {
-        if !call_carried(calls[i]) {
-            return false;
-        }
-    }
-    true
-}
-
-// The task and the events.
-#[tactic(auto, unfolding(crate::specs::Writing::carried))]
-pub fn carried(head: Head, passages: &[u32], estimates: &[u32], calls: &[u32]) -> bool
-    ensures { result ≡ carried head passages.now estimates.now calls.now }
-{
-    if !sizes_carried(head.n, passages.len(), estimates.len()) {
-        return false;
-    }
-    if !head_carried(head) {
-        return false;
-    }
-    if !ends_carried(passages) {
-        return false;
-    }
-    calls_carried(calls)
-}
-
-// The length of a file with so many passages, states and calls.
-pub fn file_length(passages: usize, n: usize, calls: usize) -> usize
-    requires { (passages ≤ 65536) × ((n ≤ 65536) × (calls ≤ 65536)) }
-    ensures { result ≡ call_place passages n calls }
-{
-    16 + 12 * passages + n * (6 + 4 * n) + 6 * calls
+    calls.iter().all(|&event| call_carried(event))
 }
 
 // A file of at most 65,536 bytes; one with more passages, states or calls than that is longer.
 pub fn file_small(passages: usize, n: usize, calls: usize) -> bool
     ensures { result ≡ leb (call_place passages n calls) most_bytes }
 {
-    if passages > 65536 {
-        return false;
-    }
-    if n > 65536 {
-        return false;
-    }
-    if calls > 65536 {
-        return false;
-    }
-    file_length(passages, n, calls) <= 65536
-}
-
-// The number of the first refusal, into a buffer of so many places; 0 where none applies.
-#[tactic(auto, using(crate::specs::WritingLaws::file_length), unfolding(crate::specs::WritingLaws::writing_fault))]
-pub fn fault(head: Head, passages: &[u32], estimates: &[u32], calls: &[u32], room: usize) -> u8
-    ensures { result ≡ writing_fault head passages.now estimates.now calls.now room }
-{
-    let many = passages.len() / 3;
-    let right = carried(head, passages, estimates, calls);
-    let small = file_small(many, head.n, calls.len());
-    if !right {
-        return faults::UNCARRIED;
-    }
-    if !small {
-        return faults::FILE_TOO_LARGE;
-    }
-    if file_length(many, head.n, calls.len()) > room {
-        return faults::SHORT_BUFFER;
-    }
-    0
+    passages <= MOST_BYTES
+        && n <= MOST_BYTES
+        && calls <= MOST_BYTES
+        && call_place(passages, n, calls) <= MOST_BYTES
 }

@@ -1,18 +1,43 @@
-// The numbers of a file's faults, each named once.
-pub const CUT_SHORT: u8 = 21;
+// Why a file is refused and why one can't be written, each with its number.
+ghost use Rattle.std.specs.Prelude.{◌≡◌};
+ghost use Rattle.taskfile.specs.Faults.{fault_number, unwritable_number};
 
-pub const OUT_OF_ORDER: u8 = 22;
+// What is wrong with a file, or with the slices that are lent for it.
+#[derive(Clone, Copy, Debug, PartialEq, Eq)]
+pub enum FaultKind {
+    CutShort = 21,
+    OutOfOrder = 22,
+    TooLarge = 23,
+    ShortSlice = 27,
+}
 
-pub const TOO_LARGE: u8 = 23;
+impl From<FaultKind> for u8 {
+    ghost from_gives = { λ kind number. number ≡ fault_number kind };
 
-pub const SHORT_SLICE: u8 = 27;
+    fn from(kind: FaultKind) -> u8 {
+        kind as u8
+    }
+}
 
-// How a scan without fault ends.
-pub const ALL_READ: u8 = 1;
+// A fault, and how far into the file it lies.
+#[derive(Clone, Copy, Debug, PartialEq, Eq)]
+pub struct Fault {
+    pub kind: FaultKind,
+    pub at: usize,
+}
 
-// The numbers of writing's refusals.
-pub const UNCARRIED: u8 = 24;
+// Why a task and events aren't written.
+#[derive(Clone, Copy, Debug, PartialEq, Eq)]
+pub enum Unwritable {
+    Uncarried = 24,
+    FileTooLarge = 25,
+    ShortBuffer = 26,
+}
 
-pub const FILE_TOO_LARGE: u8 = 25;
+impl From<Unwritable> for u8 {
+    ghost from_gives = { λ refusal number. number ≡ unwritable_number refusal };
 
-pub const SHORT_BUFFER: u8 = 26;
+    fn from(refusal: Unwritable) -> u8 {
+        refusal as u8
+    }
+}

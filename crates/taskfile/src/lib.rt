@@ -6,6 +6,7 @@ mod bytes;
 mod carry;
 mod faults;
 mod fill;
+mod layout;
 mod put;
 mod records;
 
@@ -13,16 +14,28 @@ ghost use Rattle.std.specs.Prelude.{◌≡◌};
 ghost use Rattle.taskfile.specs.Contents.{read_of};
 ghost use Rattle.taskfile.specs.Writing.{write_of};
 
-// A scan at its next record: n of the head, 0 before it; how many passages, rows and calls there were; and a status,
-// 0 while it goes on, 1 where all is read, else the number of the fault at this record.
-#[derive(Clone, Copy)]
+use carry::Task;
+pub use faults::{Fault, FaultKind, Unwritable};
+use fill::Whole;
+
+// What a file holds at most.
+pub const MOST_STATES: usize = 64;
+
+pub const MOST_PASSAGES: usize = 512;
+
+pub const MOST_BYTES: usize = 65536;
+
+// An event is one number: so much for each call, 0 Take and 1 Bring, plus the worker.
+pub const PER_CALL: u32 = 65536;
+
+// A scan at its next record: n of the head, 0 before it; and how many passages, rows and calls there were.
+#[derive(Clone, Copy, Default)]
 pub struct Scan {
     pub at: usize,
     pub n: usize,
     pub passages: usize,
     pub rows: usize,
     pub calls: usize,
-    pub status: u8,
 }
 
 // The head's numbers, and how many passages and calls were read.
@@ -38,14 +51,8 @@ pub struct Contents {
     pub calls: usize,
 }
 
-// What reading comes to: the contents, or a fault's number and offset.
-#[derive(Clone, Copy)]
-pub enum Outcome {
-    Read(Contents),
-    Fault(u8, usize),
-}
-
-// A task's six numbers, as a file's head carries them.
+// A task's six numbers, as a file's head carries them. Each is as wide as a caller may pass it: what two bytes can't hold is
+// refused as 24, so these aren't the narrower six of Contents.
 #[derive(Clone, Copy)]
 pub struct Head {
     pub n: usize,
@@ -56,50 +63,55 @@ pub struct Head {
     pub excess: usize,
 }
 
-// What writing comes to: the file's length, or a refusal's number.
-#[derive(Clone, Copy)]
-pub enum Filed {
-    Written(usize),
-    Refused(u8),
-}
-
 // Reads a task file into the three slices: three numbers a passage, n × n estimates, a number a call.
-pub fn read(file: &[u8], passages: &mut [u32], estimates: &mut [u32], calls: &mut [u32]) -> Outcome
+pub fn read(
+    file: &[u8],
+    passages: &mut [u32],
+    estimates: &mut [u32],
+    calls: &mut [u32],
+) -> Result<Contents, Fault>
     ensures value { result ≡ (read_of file.now passages.old estimates.old calls.old).outcome }
     ensures passages_after { passages.new ≡ (read_of file.now passages.old estimates.old calls.old).passages }
     ensures estimates_after { estimates.new ≡ (read_of file.now passages.old estimates.old calls.old).estimates }
     ensures calls_after { calls.new ≡ (read_of file.now passages.old estimates.old calls.old).calls }
 {
-    if file.len() > 65536 {
-        return Outcome::Fault(faults::TOO_LARGE, 65536);
+    if file.len() > MOST_BYTES {
+        return Err(Fault {
+            kind: FaultKind::TooLarge,
+            at: MOST_BYTES,
+        });
     }
-    let s = records::scan(file);
-    if s.status != faults::ALL_READ {
-        return Outcome::Fault(s.status, s.at);
+    let scan = records::scan(file)?;
+    let whole = Whole { file, scan };
+    if !whole.roomy(passages.len(), estimates.len(), calls.len()) {
+        return Err(Fault {
+            kind: FaultKind::ShortSlice,
+            at: 0,
+        });
     }
-    if !fill::roomy(s, passages.len(), estimates.len(), calls.len()) {
-        return Outcome::Fault(faults::SHORT_SLICE, 0);
-    }
-    fill::put_passages(file, s.passages, passages);
-    fill::put_rows(file, s.passages, s.n, estimates);
-    fill::put_calls(file, s.passages, s.n, s.calls, calls);
-    Outcome::Read(fill::contents(file, s))
+    whole.put_passages(passages);
+    whole.put_rows(estimates);
+    whole.put_calls(calls);
+    Ok(whole.contents())
 }
 
-// Writes a task and a list of events as a task file to the front of a buffer.
+// Writes a task and a list of events as a task file to the front of a buffer, and answers the file's length.
 pub fn write(
     head: Head,
     passages: &[u32],
     estimates: &[u32],
     calls: &[u32],
     buffer: &mut [u8],
-) -> Filed
+) -> Result<usize, Unwritable>
     ensures value { result ≡ (write_of head passages.now estimates.now calls.now buffer.old).reply }
     ensures buffer_after { buffer.new ≡ (write_of head passages.now estimates.now calls.now buffer.old).buffer }
 {
-    let number = carry::fault(head, passages, estimates, calls, buffer.len());
-    if number != 0 {
-        return Filed::Refused(number);
-    }
-    Filed::Written(put::put_file(buffer, head, passages, estimates, calls))
+    let task = Task {
+        head,
+        passages,
+        estimates,
+        calls,
+    };
+    task.writable(buffer.len())?;
+    Ok(task.put(buffer))
 }

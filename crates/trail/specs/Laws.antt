@@ -1,7 +1,7 @@
 -- What going back comes to, state by state, what its two loops know, and what callers use of a path.
-use Rattle.std.specs.Prelude.{◌≡◌, Bool, cond, get_or, take, drop, set, ltb}
+use Rattle.std.specs.Prelude.{◌≡◌, Bool, cond, Some, None, get_or, take, drop, set, ltb}
 use Rattle.std.proofs.Math.Path.{refl}
-use Rattle.std.proofs.Common.{sym, ap, ◌∙◌, add-zero, length-set, take-append-drop}
+use Rattle.std.proofs.Common.{sym, ap, ◌∙◌, add-zero, add-one, length-set, take-append-drop}
 use Rattle.std.proofs.Math.Bool.{true, false}
 use mathlib.Core.List.{List, [], ◌∷◌, ◌++◌}
 use Prim.Native.Nat.{ℕ, zero, suc, ◌+◌, ◌-◌, ◌≤◌, ◌<◌}
@@ -12,6 +12,7 @@ use borrow.Author.Tests.{ltb-true, eqb-true}
 use Rattle.laws.specs.Truth.{and_left, and_right}
 use Rattle.laws.specs.Part.{set_last}
 use Rattle.rule.specs.Task.{passage_count, near, far, is_clear}
+use Rattle.trail.specs.Seen.{counted}
 use Rattle.trail.specs.Trail.{Trail, step_back, home_at, is_home, is_linked, linked_at, go_back, path}
 
 -- the state before s
@@ -136,17 +137,17 @@ pub gone_zero : (t : Trail) → t.goal < 256 → Gone t t.goal 0
 gone_zero t l = record { met = []; many = refl; same = rw sub-zero; within = omega arith; inside = l }
 
 module _ (t : Trail) (s i : ℕ) (g : Gone t s i) where
-  pub gone_end : t.n ≤ i → 0 ≡ length (path t)
-  gone_end e = let z : t.n - i ≡ 0 = omega arith in ap length (sym (back_none t s g.met) ∙ (rw z at g.same))
+  pub gone_end : t.n ≤ i → None ≡ counted (length (path t))
+  gone_end e = let z : t.n - i ≡ 0 = omega arith in ap (λ (xs : List ℕ). counted (length xs)) (sym (back_none t s g.met) ∙ (rw z at g.same))
 
   module _ (l : i < t.n) where
     gone_on : go_back t (suc (t.n - (i + 1))) s g.met ≡ path t
     gone_on = let q : t.n - i ≡ suc (t.n - (i + 1)) = omega arith in rw q at g.same
 
-    pub gone_found : home_at t s ≡ true → i + 1 ≡ length (path t)
-    gone_found h = rw (← gone_on, back_home t _ s g.met h) (omega (arith, g.many))
+    pub gone_found : home_at t s ≡ true → Some (i + 1) ≡ counted (length (path t))
+    gone_found h = rw (← gone_on, back_home t _ s g.met h, g.many, add-one)
 
-    pub gone_broken : home_at t s ≡ false → linked_at t s ≡ false → 0 ≡ length (path t)
+    pub gone_broken : home_at t s ≡ false → linked_at t s ≡ false → None ≡ counted (length (path t))
     gone_broken h k = rw (← gone_on, back_broken t _ s g.met h k)
 
     pub gone_more : (before : ℕ) → Inside t.passages → home_at t s ≡ false → linked_at t s ≡ true → before ≡ came_from t s → Gone t before (i + 1)
@@ -158,80 +159,81 @@ module _ (t : Trail) (s i : ℕ) (g : Gone t s i) where
       inside = rw e (inside _ (linked_via t.passages t.label t.via s k));
     }
 
--- What writing knows after i states, at s: those met stand at the last of the first count places, and what is left goes on to all of them.
-pub record Written (passages via : List ℕ) (goal count : ℕ) (part₀ part : List ℕ) (s i : ℕ) : Type 0 where
-  pub met : List ℕ
-  pub same : states_back passages via (count - i) s met ≡ states_back passages via count goal []
-  pub followed : Followed passages via (count - i) s
-  pub inside : s < 256
-  pub within : i + 1 ≤ count
-  pub room : count ≤ length part₀
-  pub long : length part ≡ length part₀
-  pub done : part ≡ take (count - i) part₀ ++ (met ++ drop count part₀)
-
 -- where states can be followed there is one, and it is a place of the rows
-followed_inside : (passages via : List ℕ) (count s : ℕ) → Followed passages via count s → (1 ≤ count) × (s < 256)
+pub followed_inside : (passages via : List ℕ) (count s : ℕ) → Followed passages via count s → (1 ≤ count) × (s < 256)
 unfolding Followed
 followed_inside passages via zero s f = absurd f
 followed_inside passages via (suc zero) s f = (omega arith, f)
 followed_inside passages via (suc (suc more)) s f = (omega arith, f.0)
 
-pub written_zero : (passages via : List ℕ) (goal count : ℕ) (part : List ℕ) → Followed passages via count goal → count ≤ length part → Written passages via goal count part part goal 0
-written_zero passages via goal count part f r =
-    let h = followed_inside passages via count goal f in
-    record {
-      met = [];
-      same = rw sub-zero;
-      followed = rw sub-zero f;
-      inside = h.1;
-      within = h.0;
-      room = r;
-      long = refl;
-      done = rw sub-zero (sym (take-append-drop count part));
-    }
+-- what the answer says of the number
+pub counted_some : (n k : ℕ) → Some k ≡ counted n → (k ≡ n) × (n ≡ 0 → ⊥)
+counted_some zero k e = let z : ◌≡◌ {A = ℕ} 0 1 = cc in absurd (omega arith)
+counted_some (suc n) k e = (cc, λ z. omega arith)
 
-module _ (passages via : List ℕ) (goal count : ℕ) (part₀ part : List ℕ) (s i : ℕ) (w : Written passages via goal count part₀ part s i) where
-  written_store : set part (count - 1 - i) s ≡ take (count - (i + 1)) part₀ ++ ((s ∷ w.met) ++ drop count part₀)
-  written_store =
-      let p : count - i ≡ count - 1 - i + 1 = omega arith in
-      let q : count - (i + 1) ≡ count - 1 - i = omega arith in
-      rw (w.done, p, q) (set_last part₀ _ (count - 1 - i) s (omega arith))
+pub counted_none : (n : ℕ) → None ≡ counted n → n ≡ 0
+counted_none zero e = refl
+counted_none (suc n) e = let z : ◌≡◌ {A = ℕ} 0 1 = cc in absurd (omega arith)
 
-  written_left : i + 1 < count → (get_or via s 0 < passage_count passages) × Followed passages via (count - (i + 1)) (step_back passages via s)
-  unfolding Followed
-  written_left l =
-      let q : count - i ≡ suc (suc (count - (i + 2))) = omega arith in
-      let q' : count - (i + 1) ≡ suc (count - (i + 2)) = omega arith in
-      let f : Followed passages via (suc (suc (count - (i + 2)))) s = rw q at w.followed in
-      (f.1, rw q' f.2)
+-- What writing knows at s, with so many places left before it: s and those met before it stand in front of what comes after the first count places, and what is left goes on to all of them.
+pub record Written (passages via : List ℕ) (goal count : ℕ) (part₀ part : List ℕ) (s left : ℕ) : Type 0 where
+  pub met : List ℕ
+  pub same : states_back passages via (suc left) s met ≡ states_back passages via count goal []
+  pub followed : Followed passages via (suc left) s
+  pub room : left < count
+  pub fits : count ≤ length part₀
+  pub long : length part ≡ length part₀
+  pub done : part ≡ take left part₀ ++ ((s ∷ met) ++ drop count part₀)
 
-  written_same : states_back passages via (count - (i + 1)) (step_back passages via s) (s ∷ w.met) ≡ states_back passages via count goal []
-  unfolding states_back
-  written_same = let q : count - i ≡ suc (count - (i + 1)) = omega arith in rw q at w.same
+-- a state written at the last of the places that are left
+written_at : (part₀ part rest : List ℕ) (s left : ℕ) → part ≡ take (suc left) part₀ ++ rest → left < length part₀ → set part left s ≡ take left part₀ ++ (s ∷ rest)
+written_at part₀ part rest s left e l = rw (e, ← add-one) (set_last part₀ rest left s l)
 
-  pub written_onward : i + 1 < count → get_or via s 0 < passage_count passages
-  written_onward l = (written_left l).0
-
-  pub written_more : (before : ℕ) → i + 1 < count → before ≡ step_back passages via s → Written passages via goal count part₀ (set part (count - 1 - i) s) before (i + 1)
-  written_more before l e =
-      let f : Followed passages via (count - (i + 1)) before = rw e (written_left l).1 in
+module _ (passages via : List ℕ) (goal count : ℕ) where
+  pub written_goal : (part : List ℕ) → Followed passages via count goal → count ≤ length part → Written passages via goal count part (set part (count - 1) goal) goal (count - 1)
+  written_goal part f r =
+      let h = followed_inside passages via count goal f in
+      let q : count ≡ suc (count - 1) = omega arith in
       record {
-        met = s ∷ w.met;
-        same = rw e written_same;
-        followed = f;
-        inside = (followed_inside passages via (count - (i + 1)) before f).1;
-        within = omega arith;
-        room = w.room;
-        long = length-set part (count - 1 - i) s ∙ w.long;
-        done = written_store;
+        met = [];
+        same = rw (← q);
+        followed = rw q at f;
+        room = omega arith;
+        fits = r;
+        long = length-set part (count - 1) goal;
+        done = written_at part part (drop count part) goal (count - 1) (rw (← q) (sym (take-append-drop count part))) (omega arith);
       }
 
-  pub written_end : count ≤ i + 1 → set part (count - 1 - i) s ≡ states_back passages via count goal [] ++ drop count part₀
+  -- with a place left, the state before s is one, and is written there
+  module _ (part₀ part : List ℕ) (s i : ℕ) (w : Written passages via goal count part₀ part s i) (l : 0 < i) where
+    one_more : i ≡ suc (i - 1)
+    one_more = omega arith
+
+    written_before : (s < 256) × (get_or via s 0 < passage_count passages) × Followed passages via (suc (i - 1)) (step_back passages via s)
+    unfolding Followed
+    written_before = rw one_more at w.followed
+
+    pub written_onward : (s < 256) × (get_or via s 0 < passage_count passages)
+    written_onward = (written_before.0, written_before.1)
+
+    pub written_inside : step_back passages via s < 256
+    written_inside = (followed_inside passages via _ _ written_before.2).1
+
+    pub written_more : (before : ℕ) → before ≡ step_back passages via s → Written passages via goal count part₀ (set part (i - 1) before) before (i - 1)
+    unfolding states_back
+    written_more before e = record {
+      met = s ∷ w.met;
+      same = rw e (rw one_more at w.same);
+      followed = rw e written_before.2;
+      room = omega (arith, w.room);
+      fits = w.fits;
+      long = length-set part (i - 1) before ∙ w.long;
+      done = written_at part₀ part _ before (i - 1) (rw one_more at w.done) (omega (arith, w.room, w.fits));
+    }
+
+  pub written_end : (part₀ part : List ℕ) (s : ℕ) → Written passages via goal count part₀ part s 0 → part ≡ states_back passages via count goal [] ++ drop count part₀
   unfolding states_back
-  written_end l =
-      let z : count - (i + 1) ≡ 0 = omega arith in
-      let all : s ∷ w.met ≡ states_back passages via count goal [] = rw z at written_same in
-      written_store ∙ rw (z, ← all)
+  written_end part₀ part s w = w.done ∙ rw (← w.same)
 
 -- a passage that isn't blocked leads from a to b
 abbrev pub Leads : List ℕ → ℕ → ℕ → Type 0

@@ -2,75 +2,88 @@
 // first, into the part of a buffer that is lent for them.
 #![tactic(auto)]
 
-ghost use Rattle.std.specs.Prelude.{◌≡◌, [], ◌++◌, ◌≤◌, ◌<◌, length, drop};
-ghost use Rattle.trail.specs.Trail.{trail, is_home, is_linked, path};
+ghost use Rattle.std.specs.Prelude.{◌≡◌, [], ◌++◌, ◌≤◌, ◌<◌, length, get_or, drop};
+ghost use Rattle.rule.specs.Task.{passage_count};
+ghost use Rattle.trail.specs.Trail.{is_home, is_linked, path, step_back};
+ghost use Rattle.trail.specs.Seen.{counted, seen};
 ghost use Rattle.trail.specs.Laws.{Inside, Followed, states_back};
 
+use rule::Passage;
+
+// What going back reads: how many states there are, the start and the goal, the passages, and each state's label with the
+// number of the passage that the label came by.
+#[derive(Clone, Copy)]
+pub struct Trail<'a> {
+    pub n: usize,
+    pub start: usize,
+    pub goal: usize,
+    pub passages: &'a [u32],
+    pub label: &'a [u32; 256],
+    pub via: &'a [u16; 256],
+}
+
 // s, with this label, is the start with label 0.
+#[tactic(auto, unfolding(crate::specs::Trail::is_home))]
 pub fn is_home(start: usize, s: usize, label: u32) -> bool
     ensures { result ≡ is_home start s label }
 {
-    if s != start {
-        return false;
-    }
-    label == 0
+    s == start && label == 0
 }
 
-// The passage that s came by is one, isn't blocked, ends at s, and its cost is what the labels differ by.
-pub fn is_linked<'a>(label: &'a [u32; 256], via: &'a [u16; 256], passages: &[u32], s: usize) -> bool
-    requires { Inside passages.now × (s < 256) }
-    ensures { result ≡ is_linked passages.now label.now via.now s }
-{
-    let i = rule::wide(via[s]);
-    if i >= passages.len() / 3 {
-        return false;
+impl Trail<'_> {
+    // The state that the passage of s comes from.
+    pub fn came_from(&self, s: usize) -> usize
+        requires { (s < 256) × (get_or self.now.via.now s 0 < passage_count self.now.passages.now) }
+        ensures { result ≡ step_back self.now.passages.now self.now.via.now s }
+    {
+        Passage::read(self.passages, usize::from(self.via[s])).near
     }
-    if !rule::is_clear(passages, i) {
-        return false;
-    }
-    if rule::far(passages, i) != s {
-        return false;
-    }
-    let before = rule::near(passages, i);
-    rule::adds_up(label[s], label[before], rule::cost(passages, i))
-}
 
-// How many states the path has; 0 where going back fails.
-pub fn path_length<'a>(
-    label: &'a [u32; 256],
-    via: &'a [u16; 256],
-    passages: &[u32],
-    n: usize,
-    start: usize,
-    goal: usize,
-) -> usize
-    requires { Inside passages.now × ((goal < 256) × (n ≤ 256)) }
-    ensures { result ≡ length (path (trail n start goal passages.now label.now via.now)) }
-{
-    let mut s = goal;
-    for i in 0..n {
-        if is_home(start, s, label[s]) {
-            return i + 1;
+    // The passage that s came by is one, isn't blocked, ends at s, and its cost is what the labels differ by.
+    #[tactic(auto, unfolding(crate::specs::Trail::is_linked, rule::specs::Task::is_clear))]
+    pub fn is_linked(&self, s: usize) -> bool
+        requires { Inside self.now.passages.now × (s < 256) }
+        ensures { result ≡ is_linked self.now.passages.now self.now.label.now self.now.via.now s }
+    {
+        let i = usize::from(self.via[s]);
+        if i >= self.passages.len() / 3 {
+            return false;
         }
-        if !is_linked(label, via, passages, s) {
-            return 0;
-        }
-        s = rule::near(passages, rule::wide(via[s]));
+        let passage = Passage::read(self.passages, i);
+        passage.is_clear()
+            && passage.far == s
+            && rule::adds_up(self.label[s], self.label[passage.near], passage.cost)
     }
-    0
-}
 
-// The first count states back from the goal, into the first places of part, the goal at the last of them.
-pub fn write_back(part: &mut [u16], via: &[u16; 256], passages: &[u32], goal: usize, count: usize)
-    requires { Followed passages.now via.now count goal × (count ≤ length part.old) }
-    ensures { part.new ≡ states_back passages.now via.now count goal [] ++ drop count part.old }
-{
-    let mut s = goal;
-    let mut i: usize = 0;
-    while i + 1 < count {
-        part[count - 1 - i] = s as u16;
-        s = rule::near(passages, rule::wide(via[s]));
-        i += 1;
+    // How many states the path has; none where going back fails.
+    pub fn path_length(&self) -> Option<usize>
+        requires { Inside self.now.passages.now × ((self.now.goal < 256) × (self.now.n ≤ 256)) }
+        ensures { result ≡ counted (length (path (seen self.now))) }
+    {
+        let mut s = self.goal;
+        for i in 0..self.n {
+            if is_home(self.start, s, self.label[s]) {
+                return Some(i + 1);
+            }
+            if !self.is_linked(s) {
+                return None;
+            }
+            s = self.came_from(s);
+        }
+        None
     }
-    part[count - 1 - i] = s as u16;
+
+    // The first count states back from the goal, into the first places of part, the goal at the last of them.
+    pub fn write_back(&self, part: &mut [u16], count: usize)
+        requires { Followed self.now.passages.now self.now.via.now count self.now.goal × (count ≤ length part.old) }
+        ensures { part.new ≡ states_back self.now.passages.now self.now.via.now count self.now.goal [] ++ drop count part.old }
+    {
+        let mut s = self.goal;
+        part[count - 1] = s as u16;
+        // No `iter_mut().rev()`: the prover doesn't see what is written through it.
+        for i in (0..count - 1).rev() {
+            s = self.came_from(s);
+            part[i] = s as u16;
+        }
+    }
 }

@@ -1,159 +1,137 @@
 // The worked runs that a program runs and compares: A1 with its path, the runs without a star, and odd input.
 #![tactic(auto)]
 
-use desk::{Answer, Machine, Reply};
-use std::io;
+use desk::{Answer, Event, Machine, Reply};
+use std::{fmt, io};
 
-// A word, and the two numbers after it.
-fn line(rt: &HostRuntime, word: &str, first: u64, second: u64) -> io::Result<()> {
-    println!(rt; "{word}{first} {second}")
-}
+// Task A.
+const PASSAGES: [u32; 18] = [0, 1, 2, 0, 2, 5, 1, 2, 1, 2, 3, 2, 1, 4, 9, 3, 4, 1];
 
-// A word, and the number after it.
-fn short(rt: &HostRuntime, word: &str, number: u64) -> io::Result<()> {
-    println!(rt; "{word}{number}")
-}
+const ESTIMATES: [u32; 25] = [0; 25];
+
+// The calls of A1.
+const A1: [Event; 13] = [
+    Event::Take(0),
+    Event::Take(1),
+    Event::Bring(0),
+    Event::Take(0),
+    Event::Take(1),
+    Event::Bring(0),
+    Event::Take(1),
+    Event::Take(0),
+    Event::Bring(1),
+    Event::Take(0),
+    Event::Take(1),
+    Event::Bring(0),
+    Event::Take(1),
+];
 
 // A reply to a worker, in deskrun's words.
-fn say(rt: &HostRuntime, worker: usize, reply: Reply) -> io::Result<()> {
-    let w = worker as u64;
-    match reply {
-        Reply::Opened => short(rt, "opened ", w),
-        Reply::Took(s) => line(rt, "took ", w, s as u64),
-        Reply::Brought(many) => line(rt, "brought ", w, many as u64),
-        Reply::Found(cost) => line(rt, "found ", w, cost as u64),
-        Reply::NoPath => short(rt, "nopath ", w),
-        Reply::Wait(s) => line(rt, "wait ", w, s as u64),
-        Reply::Read(many) => line(rt, "read ", w, many as u64),
-        Reply::Refused(number) => line(rt, "refused ", w, number as u64),
-        Reply::Done => short(rt, "done ", w),
-        Reply::Cut(limit) => line(rt, "cut ", w, limit as u64),
+#[derive(Clone, Copy)]
+struct Line {
+    worker: usize,
+    reply: Reply,
+}
+
+impl fmt::Display for Line {
+    fn fmt<W: fmt::Write>(&self, f: &mut fmt::Formatter<W>) -> fmt::Result {
+        let worker = self.worker;
+        match self.reply {
+            Reply::Opened => write!(f, "opened {worker}"),
+            Reply::Took(s) => write!(f, "took {worker} {s}"),
+            Reply::Brought(many) => write!(f, "brought {worker} {many}"),
+            Reply::Found(cost) => write!(f, "found {worker} {cost}"),
+            Reply::NoPath => write!(f, "nopath {worker}"),
+            Reply::Wait(s) => write!(f, "wait {worker} {s}"),
+            Reply::Read(many) => write!(f, "read {worker} {many}"),
+            Reply::Refused(refusal) => write!(f, "refused {worker} {}", u8::from(refusal)),
+            Reply::Done => write!(f, "done {worker}"),
+            Reply::Cut(limit) => write!(f, "cut {worker} {limit}"),
+        }
+    }
+}
+
+// The states of a path.
+#[derive(Clone, Copy)]
+struct Path([u16; 5]);
+
+impl fmt::Display for Path {
+    fn fmt<W: fmt::Write>(&self, f: &mut fmt::Formatter<W>) -> fmt::Result {
+        f.write_str("path")?;
+        for s in &self.0 {
+            write!(f, " {s}")?;
+        }
+        Ok(())
     }
 }
 
 // The reply of an answer, said; and its machine.
 fn said(rt: &HostRuntime, worker: usize, answer: Answer) -> io::Result<Machine> {
-    say(rt, worker, answer.reply)?;
+    let reply = answer.reply;
+    println!(rt; "{}", Line { worker, reply })?;
     Ok(answer.machine)
 }
 
-// One call: 16 times 0 for Take or 1 for Bring, plus the worker.
-fn step(
-    rt: &HostRuntime,
-    m: Machine,
-    passages: &[u32],
-    estimates: &[u32],
-    call: u8,
-) -> io::Result<Machine> {
-    let worker = (call % 16) as usize;
-    if call / 16 == 0 {
-        return said(rt, worker, m.take(passages, estimates, worker));
+// One call on task A.
+fn step(rt: &HostRuntime, m: Machine, event: Event) -> io::Result<Machine> {
+    match event {
+        Event::Take(worker) => said(rt, worker, m.take(&PASSAGES, &ESTIMATES, worker)),
+        Event::Bring(worker) => said(rt, worker, m.bring(&PASSAGES, &ESTIMATES, worker)),
     }
-    said(rt, worker, m.bring(passages, estimates, worker))
-}
-
-// The calls in their order, each on the machine last handed back.
-fn play(
-    rt: &HostRuntime,
-    machine: Machine,
-    passages: &[u32],
-    estimates: &[u32],
-    calls: &[u8],
-) -> io::Result<Machine> {
-    let mut m = machine;
-    for i in 0..calls.len() {
-        m = step(rt, m, passages, estimates, calls[i])?;
-    }
-    Ok(m)
-}
-
-// One state of a path.
-fn state(rt: &HostRuntime, number: u16) -> io::Result<()> {
-    print!(rt; " {number}")
-}
-
-// The states of a path of five.
-fn show(rt: &HostRuntime, states: &[u16; 5]) -> io::Result<()> {
-    print!(rt; "path")?;
-    state(rt, states[0])?;
-    state(rt, states[1])?;
-    state(rt, states[2])?;
-    state(rt, states[3])?;
-    state(rt, states[4])?;
-    println!(rt;)
 }
 
 // Task A, with sizes, a goal and a cost for the last passage of its own: opened.
 fn opened(n: usize, k: usize, goal: usize, cost: u32) -> Answer {
-    let passages = [0u32, 1, 2, 0, 2, 5, 1, 2, 1, 2, 3, 2, 1, 4, 9, 3, 4, cost];
-    let estimates = [0u32; 25];
-    Machine::opening(n, k, 0, goal, 100, 100, &passages, &estimates)
+    let mut passages = PASSAGES;
+    passages[17] = cost;
+    Machine::opening(n, k, 0, goal, 100, 100, &passages, &ESTIMATES)
+}
+
+// Task A as it is, opened.
+fn fresh() -> Machine {
+    opened(5, 2, 4, 1).machine
 }
 
 // A machine of task A that has dealt the start to worker 0.
 fn dealt() -> Machine {
-    let answer = opened(5, 2, 4, 1);
-    let m = answer.machine;
-    let next = taken(m, 0);
-    next.machine
-}
-
-// Take of a worker, on task A.
-fn taken(m: Machine, worker: usize) -> Answer {
-    let passages = [0u32, 1, 2, 0, 2, 5, 1, 2, 1, 2, 3, 2, 1, 4, 9, 3, 4, 1];
-    let estimates = [0u32; 25];
-    m.take(&passages, &estimates, worker)
+    fresh().take(&PASSAGES, &ESTIMATES, 0).machine
 }
 
 // The calls of A1 on task A.
 fn played(rt: &HostRuntime) -> io::Result<Machine> {
-    let passages = [0u32, 1, 2, 0, 2, 5, 1, 2, 1, 2, 3, 2, 1, 4, 9, 3, 4, 1];
-    let estimates = [0u32; 25];
-    let calls = [0u8, 1, 16, 0, 1, 16, 1, 0, 17, 0, 1, 16, 1];
-    let answer = opened(5, 2, 4, 1);
-    play(rt, answer.machine, &passages, &estimates, &calls)
+    let mut m = fresh();
+    for &event in &A1 {
+        m = step(rt, m, event)?;
+    }
+    Ok(m)
 }
 
 // Path reading on task A, into a buffer of five places from `at` on: the reply, and the buffer.
 fn read(rt: &HostRuntime, m: Machine, at: usize) -> io::Result<()> {
-    let passages = [0u32, 1, 2, 0, 2, 5, 1, 2, 1, 2, 3, 2, 1, 4, 9, 3, 4, 1];
-    let estimates = [0u32; 25];
     let mut states = [9u16; 5];
-    said(rt, 0, m.path(&passages, &estimates, &mut states, at))?;
-    show(rt, &states)
-}
-
-// Path reading on task A, into no place at all.
-fn read_nowhere(rt: &HostRuntime, m: Machine) -> io::Result<()> {
-    let passages = [0u32, 1, 2, 0, 2, 5, 1, 2, 1, 2, 3, 2, 1, 4, 9, 3, 4, 1];
-    let estimates = [0u32; 25];
-    let mut none = [0u16; 0];
-    said(rt, 0, m.path(&passages, &estimates, &mut none, 0))?;
-    Ok(())
+    said(rt, 0, m.path(&PASSAGES, &ESTIMATES, &mut states, at))?;
+    println!(rt; "{}", Path(states))
 }
 
 // A1, and the path that it ends with.
 fn run_a1(rt: &HostRuntime) -> io::Result<()> {
-    read(rt, played(rt)?, 0)?;
-    Ok(())
+    read(rt, played(rt)?, 0)
 }
 
 // Cost 1,000,000 passes, 1,000,001 is 4; goal 5 of 5 is 2; worker 2 of 2 is 9.
 fn run_bounds(rt: &HostRuntime) -> io::Result<()> {
-    said(rt, 0, opened(5, 2, 4, 1000000))?;
-    said(rt, 0, opened(5, 2, 4, 1000001))?;
-    said(rt, 0, opened(5, 2, 5, 1))?;
-    let answer = opened(5, 2, 4, 1);
-    said(rt, 2, taken(answer.machine, 2))?;
+    for (goal, cost) in [(4, 1000000), (4, 1000001), (5, 1)] {
+        said(rt, 0, opened(5, 2, goal, cost))?;
+    }
+    step(rt, fresh(), Event::Take(2))?;
     Ok(())
 }
 
 // Sizes out of range: n of 0 and 257, k of 0 and 33.
 fn run_sizes(rt: &HostRuntime) -> io::Result<()> {
-    said(rt, 0, opened(0, 2, 4, 1))?;
-    said(rt, 0, opened(257, 2, 4, 1))?;
-    said(rt, 0, opened(5, 0, 4, 1))?;
-    said(rt, 0, opened(5, 33, 4, 1))?;
+    for (n, k) in [(0, 2), (257, 2), (5, 0), (5, 33)] {
+        said(rt, 0, opened(n, k, 4, 1))?;
+    }
     Ok(())
 }
 
@@ -161,34 +139,32 @@ fn run_sizes(rt: &HostRuntime) -> io::Result<()> {
 // held twice, a phase of 3; and a worker at its type's largest number.
 fn run_made_up(rt: &HostRuntime) -> io::Result<()> {
     let mut m = dealt();
-    m.label[1] = 4294967295;
-    said(rt, 1, taken(m, 1))?;
+    m.label[1] = u32::MAX;
+    step(rt, m, Event::Take(1))?;
     m = dealt();
-    m.mark[1] = 255;
-    said(rt, 1, taken(m, 1))?;
+    m.mark[1] = u8::MAX;
+    step(rt, m, Event::Take(1))?;
     m = dealt();
     m.mark[0] = 3;
-    said(rt, 1, taken(m, 1))?;
+    step(rt, m, Event::Take(1))?;
     m = dealt();
     m.held[1] = 0;
-    said(rt, 1, taken(m, 1))?;
+    step(rt, m, Event::Take(1))?;
     m = dealt();
     m.phase = 3;
-    said(rt, 1, taken(m, 1))?;
-    m = dealt();
-    said(rt, 1, taken(m, 18446744073709551615))?;
+    step(rt, m, Event::Take(1))?;
+    said(rt, 1, dealt().take(&PASSAGES, &ESTIMATES, usize::MAX))?;
     Ok(())
 }
 
 // Path reading with no place, and from places past the end; and before the search has found.
 fn run_reading(rt: &HostRuntime) -> io::Result<()> {
     let m = played(rt)?;
-    read_nowhere(rt, m)?;
-    read(rt, m, 1)?;
-    read(rt, m, 5)?;
-    read(rt, m, 18446744073709551615)?;
-    read(rt, dealt(), 0)?;
-    Ok(())
+    said(rt, 0, m.path(&PASSAGES, &ESTIMATES, &mut [], 0))?;
+    for at in [1, 5, usize::MAX] {
+        read(rt, m, at)?;
+    }
+    read(rt, dealt(), 0)
 }
 
 fn main(rt: HostRuntime) -> io::Result<()> {

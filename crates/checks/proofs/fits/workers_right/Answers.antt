@@ -1,9 +1,9 @@
 -- The first worker that fails settles it.
-use Rattle.std.proofs.Common.{sym}
-use Rattle.laws.specs.All.{all_stop}
+use Rattle.std.proofs.Common.{rules, refl}
+use Rattle.laws.specs.Ranges.{all_over}
 use Rattle.checks.specs.Fits.{workers_right}
 use Rattle.checks.proofs.fits.workers_right.Goals as goal
 
-pub returns-then-not-worker_right : goal.returns-then-not-worker_right
+pub returns : goal.returns
 unfolding workers_right
-returns-then-not-worker_right c = all_stop _ c.loop-w.w _ (sym c.if-not-worker_right.ensures) c.loop-w-test.true
+returns c = all_over _ _ _ (λ x r f h. search rules) _ refl _ c.all.ensures.runs

@@ -1,37 +1,19 @@
--- The loop's start and turn are the laws on `Best`; past the loop `front` is the foremost block.
-use Rattle.std.proofs.Common.{◌<◌, arith, rules, inl, inr, lt-ltb, le-ltb}
-use Rattle.laws.specs.Least.{best_zero, best_skip, best_lost, best_won, best_end}
-use Rattle.dealing.specs.LimitedLeadLaws.{foremost_block, lead_none, lead_some, front_below}
+-- The loop's start, turn and end are the laws on `Foremost`.
+use Rattle.std.proofs.Common.{◌∙◌, sym, arith}
+use Rattle.dealing.specs.LimitedLeadLaws.{foremost_zero, foremost_skip, foremost_lost, foremost_won, foremost_end}
 use Rattle.dealing.proofs.limits.foremost_lead.Goals as goal
-use Rattle.dealing.proofs.limits.foremost_lead.Goals.{then-t-n+then-front-eq16, then-t-n+else-front-eq16+then-key_t-least, then-t-n+else-front-eq16+else-key_t-least, else-t-n}
+use Rattle.dealing.proofs.limits.foremost_lead.Goals.{in-Some+then-wins, in-Some+else-wins, in_default}
 
-pub loop-b-init : goal.loop-b-init
-loop-b-init c = best_zero _ _ _ _
+pub loop-lead-init : goal.loop-lead-init
+loop-lead-init c = foremost_zero _
 
-pub loop-b-preserved : goal.loop-b-preserved
-loop-b-preserved c =
-    elim c.if-t-n.branch [
-      | then-t-n+then-front-eq16 w ↦ rw (w.front-is, w.least-is) (best_won _ _ _ _ _ _ c.loop-b.invariant (lt-ltb _ _ w.if-t-n.true) (inl w.if-front-eq16.true))
-      | then-t-n+else-front-eq16+then-key_t-least w ↦
-          rw (w.front-is, w.least-is) (best_won _ _ _ _ _ _ c.loop-b.invariant (lt-ltb _ _ w.if-t-n.true) (inr (w.if-front-eq16.false, w.if-key_t-least.true)))
-      | then-t-n+else-front-eq16+else-key_t-least w ↦ rw (w.front-is, w.least-is) (best_lost _ _ _ _ _ _ c.loop-b.invariant w.if-front-eq16.false w.if-key_t-least.false)
-      | else-t-n w ↦ rw (w.front-is, w.least-is) (best_skip _ _ _ _ _ _ c.loop-b.invariant (le-ltb _ _ w.if-t-n.false))
+pub loop-lead-preserved : goal.loop-lead-preserved
+loop-lead-preserved c =
+    elim c.match-lead.branch [
+      | in-Some+then-wins w ↦ rw (w.best-is, w.in-Some.is) (foremost_won _ _ _ c.loop-lead.invariant _ w.in-Some.is c.loop-lead-test.true (sym w.wins.ensures ∙ w.if-wins.true))
+      | in-Some+else-wins w ↦ rw w.best-is (foremost_lost _ _ _ c.loop-lead.invariant _ w.in-Some.is (sym w.wins.ensures ∙ w.if-wins.false))
+      | in_default w ↦ rw w.best-is (foremost_skip _ _ _ c.loop-lead.invariant w.in_default.is)
     ]
 
-pub returns-then-front-eq16-2 : goal.returns-then-front-eq16-2
-unfolding foremost_block
-returns-then-front-eq16-2 c = lead_none _ _ _ _ (best_end _ _ _ _ _ _ _ c.loop-b.invariant (omega arith) (omega arith)) c.if-front-eq16-2.true
-
-pub bounds-leads-front : goal.bounds-leads-front
-unfolding foremost_block
-bounds-leads-front c = front_below _ _ _ _ (best_end _ _ _ _ _ _ _ c.loop-b.invariant (omega arith) (omega arith)) c.if-front-eq16-2.false
-
-pub offset_bounds-leads-front : goal.offset_bounds-leads-front
-unfolding foremost_block
-offset_bounds-leads-front c =
-    let l : c.loop-b.front < 16 = front_below _ _ _ _ (best_end _ _ _ _ _ _ _ c.loop-b.invariant (omega arith) (omega arith)) c.if-front-eq16-2.false in
-    search rules
-
 pub returns : goal.returns
-unfolding foremost_block
-returns c = lead_some _ _ _ _ (best_end _ _ _ _ _ _ _ c.loop-b.invariant (omega arith) (omega arith)) c.if-front-eq16-2.false
+returns c = foremost_end _ _ _ c.loop-lead.invariant (omega arith) (omega arith)

@@ -1,9 +1,10 @@
--- The first byte that does not stand there settles it.
-use Rattle.std.proofs.Common.{ne_eqb}
-use Rattle.laws.specs.All.{all_stop}
+-- Every byte of the word stands there, or one doesn't.
+use Rattle.std.proofs.Common.{rules}
+use Rattle.std.proofs.iter.runs.Made.{chains}
+use Rattle.laws.specs.Chains.{all_by}
 use Rattle.gridmap.specs.Text.{is_word}
 use Rattle.gridmap.proofs.header.is_word.Goals as goal
 
-pub returns-then-byte-word : goal.returns-then-byte-word
+pub returns : goal.returns
 unfolding is_word
-returns-then-byte-word c = all_stop _ c.loop-i.i _ (rw (← c.byte.ensures) (ne_eqb _ _ c.if-byte-word.true)) c.loop-i-test.true
+returns c = all_by _ _ _ (λ e x l. search (rules, chains)) (λ e. search (rules, chains))

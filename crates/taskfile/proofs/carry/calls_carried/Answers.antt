@@ -1,15 +1,10 @@
--- The first event that fails settles it; where none does, all are seen at the end.
-use Rattle.std.proofs.Common.{sym}
-use Rattle.laws.specs.All.{all_zero, all_more, all_stop}
+-- `all` stops at the first event that fails, and is true where none does.
+use Rattle.std.proofs.Common.{rules}
+use Rattle.std.proofs.iter.runs.Made.{chains}
+use Rattle.laws.specs.Chains.{all_by}
 use Rattle.taskfile.specs.Writing.{calls_carried}
 use Rattle.taskfile.proofs.carry.calls_carried.Goals as goal
 
-pub loop-i-init : goal.loop-i-init
-loop-i-init c = all_zero _
-
-pub returns-then-not-call_carried : goal.returns-then-not-call_carried
+pub returns : goal.returns
 unfolding calls_carried
-returns-then-not-call_carried c = all_stop _ c.loop-i.i _ (sym c.if-not-call_carried.ensures) c.loop-i-test.true
-
-pub loop-i-preserved : goal.loop-i-preserved
-loop-i-preserved c = all_more _ c.loop-i.i c.loop-i.invariant (sym c.if-not-call_carried.ensures)
+returns c = all_by _ _ _ (λ e i l. search (rules, chains)) (λ e. search (rules, chains))

@@ -1,8 +1,10 @@
--- `scan`: before turn i the scan is the one after i records.
-use Rattle.std.proofs.Common.{◌≡◌}
-use Rattle.laws.specs.Fold.{fold}
-use Rattle.taskfile.specs.Scan.{begun, advance}
+-- `scan`: its scan is one that so many records without fault lead to, and each record takes it further.
+use Rattle.std.proofs.Common.{length, ◌-◌}
+use Rattle.taskfile.specs.Laws.{Reached}
 use Rattle.taskfile.proofs.records.scan.Given as goal
 
-abbrev pub invariant-loop-i : goal.invariant-loop-i
-invariant-loop-i l = l.s ≡ fold (λ _ s. advance l.file s) begun l.i
+abbrev pub invariant-loop-s : goal.invariant-loop-s
+invariant-loop-s l = Reached l.file l.s
+
+abbrev pub decreases-loop-s : goal.decreases-loop-s
+decreases-loop-s l = length l.file - l.s.at

@@ -1,7 +1,0 @@
--- `row::vias` fills its array front to back: before turn s its first s places hold the row's first s passage numbers.
-use Rattle.std.proofs.Common.{◌+◌, get_or}
-use Rattle.laws.specs.Fill.{Filled}
-use Rattle.deskc.proofs.row.vias.Given as goal
-
-abbrev pub invariant-loop-s : goal.invariant-loop-s
-invariant-loop-s l = Filled (λ i. get_or l.row (519 + i) 0) 0 l.initial.via l.via l.s

@@ -1,5 +1,0 @@
--- `put_digits` calls itself with one digit less to put: the measure is how many are left.
-use Rattle.report.proofs.decimal.+put_digits.Given as goal
-
-abbrev pub decreases-put_digits : goal.decreases-put_digits
-decreases-put_digits l = l.most
