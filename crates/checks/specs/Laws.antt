@@ -11,7 +11,7 @@ use borrow.Author.Tests.{ltb-true, leb-true, eqb-true, eq-eqb, ne_eqb, le-leb}
 use Rattle.laws.specs.Truth.{and_left, and_right, or_either, provided, provided_ok, not_refused}
 use Rattle.laws.specs.Count.{count_zero, count_yes, count_no, count_max}
 use Rattle.laws.specs.LargestLaws.{largest, largest_at}
-use Rattle.laws.specs.All.{all, all_at, all_of}
+use Rattle.laws.specs.All.{all, all_at, all_stop, all_of}
 use Rattle.rule.specs.Task.{passage_count, near, far, cost, is_clear, estimate}
 use Rattle.rule.specs.Laws.{WholeTable}
 use Rattle.rule.specs.declared.refusals.Refusal.{Refusal}
@@ -126,6 +126,10 @@ module _ (passages : List ℕ) (n : ℕ) (e : passages_right passages n ≡ true
   pub cost_in : is_clear passages i ≡ true → cost passages i ≤ 1000000
   cost_in k = leb-true _ _ (rw k at (and_right (ltb (near passages i) n && ltb (far passages i) n) (not (is_clear passages i) || leb (cost passages i) 1000000) passage_at_lem))
 
+-- an estimate that is too large settles its row
+pub row_stop : (estimates : List ℕ) (n a b : ℕ) → leb (estimate estimates n a b) 255000000 ≡ false → b < n → false ≡ row_right estimates n a
+row_stop estimates n a b e l = rw (← all_stop (λ b. leb (estimate estimates n a b) 255000000) b n e l)
+
 -- of a table that passed check 5
 pub estimate_low : (estimates : List ℕ) (n : ℕ) → estimates_right estimates n ≡ true → (a b : ℕ) → a < n → b < n → estimate estimates n a b ≤ 255000000
 unfolding estimates_right
@@ -182,6 +186,9 @@ module _ (held many : List ℕ) (w : ℕ) (c : Counted held many w) where
   pub counted_low : (s : ℕ) → s < 256 → get_or many s 0 ≤ w
   unfolding holders
   counted_low s l = omega (arith, c.each s l, count_max (λ v. eqb (get_or held v 0) s) w)
+
+  pub counted_end : (k : ℕ) → w ≤ k → k ≤ w → Counted held many k
+  counted_end k l g = let q : w ≡ k = omega arith in rw q at c
 
 -- what check 7 passes over: the detours from a by a itself, and by a state that is at least as far from a as any
 module _ (estimates : List ℕ) (n a b : ℕ) where

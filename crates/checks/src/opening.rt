@@ -47,16 +47,20 @@ pub fn weights_right(pull: u16, excess: u16) -> bool
     (LEAST_EXCESS..=MOST_EXCESS).contains(&excess) && pull <= excess
 }
 
-// 4: both ends of each passage are states, and no cost is too high, but for a blocked passage's.
+// 4: both ends of each passage are states, and no cost is too high, but for a blocked passage's. Of the ends the largest is compared,
+// and neither pass has a way out but its end, so that several passages can be looked at at a time.
 pub fn passages_right(passages: &[u32], n: usize) -> bool
     ensures { result ≡ passages_right passages.now n }
 {
-    (0..passages.len() / 3).all(|i| {
-        let passage = Passage::read(passages, i);
-        passage.near < n
-            && passage.far < n
-            && (!passage.is_clear() || passage.cost <= rule::MOST_COST)
-    })
+    let count = passages.len() / 3;
+    let end = (0..count).fold(0, |most: u32, i| {
+        most.max(passages[3 * i].max(passages[3 * i + 1]))
+    });
+    let costs = (0..count).fold(true, |right, i| {
+        let cost = passages[3 * i + 2];
+        right & ((cost == rule::BLOCKED) | (cost <= rule::MOST_COST))
+    });
+    ((count == 0) | ((end as usize) < n)) & costs
 }
 
 // One row of 5: no estimate is too large, and the one on the diagonal is 0.

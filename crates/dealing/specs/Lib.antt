@@ -6,6 +6,7 @@ pub mod Decision
 pub mod Limited
 pub mod Laws
 pub mod LimitedRowLaws
+pub mod LoopLaws
 pub mod LimitedLeadLaws
 pub mod LimitedOrderLaws
 pub mod LimitedLaws

@@ -49,6 +49,20 @@ foremost_lead leads = lead_of leads (foremost_block leads)
 some_apart : (x : ℕ × ℕ) → Some x ≡ None → ⊥
 some_apart x e = let z : ◌≡◌ {A = ℕ} 0 1 = cc in omega arith
 
+-- the lead, by the block that is foremost
+module _ (leads : List (Option (ℕ × ℕ))) (b : ℕ) (e : b ≡ foremost_block leads) where
+  pub lead_none : b ≡ 16 → None ≡ foremost_lead leads
+  unfolding foremost_lead
+  lead_none q = rw (← e, eq-eqb b 16 q)
+
+  pub lead_some : (b ≡ 16 → ⊥) → get_or leads b None ≡ foremost_lead leads
+  unfolding foremost_lead
+  lead_some z = rw (← e, ne_eqb b 16 z)
+
+  pub front_below : (b ≡ 16 → ⊥) → b < 16
+  unfolding foremost_block
+  front_below z = rw e (least_below _ (lead_key leads) 16 16 (omega arith) (λ q. z (e ∙ q)))
+
 -- what the loop over the leads knows at i: the block whose lead is `best`
 pub record Foremost (leads : List (Option (ℕ × ℕ))) (i : ℕ) (best : Option (ℕ × ℕ)) : Type 0 where
   pub block : ℕ
@@ -270,14 +284,23 @@ leading_zero mark row n goal last from end = record {
 }
 
 module _ (mark row : List ℕ) (n goal : ℕ) (last : Option (ℕ × ℕ)) (from end i : ℕ) (best : Option (ℕ × ℕ)) (w : Leading mark row n goal last from end i best) where
-  -- it ends at n or `end`, or made no turn
-  pub leading_end : (stop : ℕ) → stop ≡ min end n → stop ≤ i → (i ≤ stop) ⊎ (i ≡ from) → best ≡ standing row n (lead_in mark row n goal last from end)
+  -- it ends at n or `end`; past n it comes only where it made no turn
+  pub leading_end : (stop : ℕ) → (stop ≡ n) ⊎ (stop ≡ end) → stop ≤ i → (i ≤ n) ⊎ (i ≡ from) → best ≡ standing row n (lead_in mark row n goal last from end)
   unfolding lead_in
-  leading_end stop m l r =
+  leading_end stop v l high =
       w.known
       ∙ ap (standing row n)
-      (best_past _ _ n i n _ _ w.leads.best (λ x a g. between_past mark row n goal last from end x (omega arith))
-      (λ x a g. ⊎_elim (λ q. absurd (omega arith)) (λ q. between_before mark row n goal last from end x (omega arith)) r))
+      (best_past _ _ n i n _ _ w.leads.best
+      (λ x a g. ⊎_elim (λ q. absurd (omega arith)) (λ q. between_past mark row n goal last from end x (omega arith)) v)
+      (λ x a g. ⊎_elim (λ q. absurd (omega arith)) (λ q. between_before mark row n goal last from end x (omega arith)) high))
+
+  -- the range's end is the lesser of the two
+  pub leading_stop : (stop : ℕ) → stop ≡ min end n → stop ≤ i → (i ≤ stop) ⊎ (i ≡ from) → best ≡ standing row n (lead_in mark row n goal last from end)
+  leading_stop stop m l r = leading_end stop (lesser (ℕ_discrete stop n)) l (⊎_elim (λ q. inl (omega arith)) (λ q. inr q) r)
+    where
+      lesser : Dec (stop ≡ n) → (stop ≡ n) ⊎ (stop ≡ end)
+      lesser (yes q) = inl q
+      lesser (no z) = inr (omega arith)
 
   -- i doesn't come on
   pub leading_skip : comes_on mark row goal last i ≡ false → Leading mark row n goal last from end (i + 1) best
@@ -303,9 +326,11 @@ pub record Led (mark row : List ℕ) (n goal s : ℕ) (leads : List (Option (ℕ
 
 module _ (mark row : List ℕ) (n goal s : ℕ) (k : n ≤ 256) where
   -- s has failed: the lead of its block is looked for anew
-  pub led_renewed : (leads : List (Option (ℕ × ℕ))) (v : Option (ℕ × ℕ)) → Led mark row n goal s leads → s < n
+  pub led_renewed : (leads : List (Option (ℕ × ℕ))) (v : Option (ℕ × ℕ)) → Led mark row n goal s leads → (s ≡ n → ⊥)
       → v ≡ standing row n (block_lead mark row n goal (Some (s, key_at row s)) (s / 16)) → set leads (s / 16) v ≡ leads_in mark row n goal (Some (s, key_at row s))
-  led_renewed leads v w l e = rw (w.all, e) (leads_renewed mark row n goal w.before s w.next l k)
+  led_renewed leads v w z e =
+      let l : s < n = rw w.next (next_low mark row n goal w.before (λ q. z (w.next ∙ q))) in
+      rw (w.all, e) (leads_renewed mark row n goal w.before s w.next l k)
 
   -- with the leads after s the foremost one is the next
   module _ (leads : List (Option (ℕ × ℕ))) (last : Option (ℕ × ℕ)) (e : leads ≡ leads_in mark row n goal last) where

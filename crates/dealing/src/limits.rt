@@ -27,6 +27,7 @@ pub struct Test {
 // What trying candidates one after the other comes to: the one that passed; or none passed, and the test of the first one,
 // if there was one, stopped at a state. Both with how many comparisons were made so far.
 #[derive(Clone, Copy, Debug, PartialEq, Eq)]
+// No Result: that none passed is no failure, and it ends in NoPath or in a Wait.
 pub enum Tries {
     Passed(usize, usize),
     Failed(Option<usize>, usize),
@@ -98,6 +99,7 @@ impl Ranked<'_, '_> {
         let board = self.board;
         let key_s = self.key[s];
         let mut made: usize = 0;
+        // By number: the mark, the key, the label and the table are read at it.
         for t in 0..board.table.n {
             if is_rival(board.mark[t], self.key[t], key_s) {
                 if made == left {
@@ -121,6 +123,7 @@ impl Ranked<'_, '_> {
         ensures { result ≡ lead_of self.now last from end }
     {
         let mut best: Option<(usize, u64)> = None;
+        // By number: the mark and the key are read at it, and it is what is answered.
         for t in from..end.min(self.board.table.n) {
             if self.board.mark[t] != rule::OPEN {
                 continue;

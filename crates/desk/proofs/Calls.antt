@@ -76,7 +76,7 @@ counts_back (Cut limit) made z p h = h
 module _ (m : Machine) (passages estimates : List ℕ) (worker : ℕ) (sound : Bool) (s : sound ≡ is_sound m passages estimates) (h : Option ℕ)
     (q : Ok h ≡ hands_if (fault_of sound m worker) (held_by (hands_of m) worker)) where
   pub let_in : Admitted m (hands_of m) passages estimates worker
-  let_in = may_call m passages estimates worker sound s h q
+  let_in = may_call m (hands_of m) passages estimates worker sound s h q
 
   -- the machine fits, and the worker has a place in the row
   pub facts : Fitting m (hands_of m) passages estimates
@@ -87,10 +87,10 @@ module _ (m : Machine) (passages estimates : List ℕ) (worker : ℕ) (sound : B
 
   -- what the worker holds: nothing, or a state
   pub empty : eqb (held_by (hands_of m) worker) none ≡ not (is_some h)
-  empty = held_none _ ∙ ap (λ (x : Option ℕ). not (is_some x)) (sym (hands_hold m passages estimates worker sound s h q))
+  empty = held_none _ ∙ ap (λ (x : Option ℕ). not (is_some x)) (sym (hands_hold m (hands_of m) passages estimates worker sound s h q))
 
   pub holds : (state : ℕ) → h ≡ Some state → (state ≡ held_by (hands_of m) worker) × (held_by (hands_of m) worker ≡ none → ⊥)
-  holds state e = held_some _ state (sym e ∙ hands_hold m passages estimates worker sound s h q)
+  holds state e = held_some _ state (sym e ∙ hands_hold m (hands_of m) passages estimates worker sound s h q)
 
   -- a state that is decided has a place in the rows
   pub in_rows : (d : Decision) → d ≡ decision m.goal m.pull (board_of m estimates) → Placed d

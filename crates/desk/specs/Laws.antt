@@ -139,10 +139,7 @@ unfolding fits
 fits_by m held passages estimates sound s fit e = rw s at e
 
 -- a call by its worker's hands, or by its first refusal, as the code finds them: conditions 1 to 4 and the keys come to `sound`
-module _ (m : Machine) (passages estimates : List ℕ) (worker : ℕ) (sound : Bool) (s : sound ≡ is_sound m passages estimates) where
-  abbrev held : List ℕ
-  held = hands_of m
-
+module _ (m : Machine) (held passages estimates : List ℕ) (worker : ℕ) (sound : Bool) (s : sound ≡ is_sound m passages estimates) where
   abbrev fault_found : Result (Unit {0}) Refusal
   fault_found = call_fault (sound && rows_fit m.n m.k m.phase m.mark m.label held) m.k m.phase worker
 

@@ -45,13 +45,14 @@ impl Machine {
         let label = self.label[s];
         let mut many = 0;
         // The passages of s in slice order. A blocked passage's cost is never added: the sum would not fit.
+        // By number, since a passage's number is what is stored.
         for i in 0..passages.len() / 3 {
-            let passage = Passage::read(passages, i);
-            if passage.near == s
-                && passage.is_clear()
-                && self.lower(&table, i, passage.far, label + passage.cost)
-            {
-                many += 1;
+            // Most are another state's: of these the near end alone is read.
+            if passages[3 * i] as usize == s {
+                let passage = Passage::read(passages, i);
+                if passage.is_clear() && self.lower(&table, i, passage.far, label + passage.cost) {
+                    many += 1;
+                }
             }
         }
         self.mark[s] = rule::FINISHED;
@@ -59,6 +60,7 @@ impl Machine {
         Ok(Reply::Brought(many))
     }
 
+    // As `take`, but for the step.
     pub fn bring(mut self, passages: &[u32], estimates: &[u32], worker: usize) -> Answer
         ensures { result ≡ bring_of self passages.now estimates.now worker }
     {

@@ -29,6 +29,7 @@ impl Machine {
         }
     }
 
+    // The eight stand apart, as README, C and the bench hand them over.
     #[tactic(auto, unfolding(crate::specs::Opening::opening_of, crate::specs::Opening::opened_machine))]
     pub fn opening(
         n: usize,

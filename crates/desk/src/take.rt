@@ -81,6 +81,7 @@ impl Machine {
         self.act(worker, decision)
     }
 
+    // As `bring`, but for the step: the two calls stand side by side in the scope, four lines each.
     pub fn take(mut self, passages: &[u32], estimates: &[u32], worker: usize) -> Answer
         ensures { result ≡ take_of self passages.now estimates.now worker }
     {

@@ -63,13 +63,13 @@ unfolding halves
 halves_length [] = refl
 halves_length (x ∷ xs) = omega (arith, halves_length xs)
 
-halves_low : (xs : List ℕ) (s : ℕ) → get_or (halves xs) (2 * s) 0 ≡ get_or xs s 0 % 4294967296
+pub halves_low : (xs : List ℕ) (s : ℕ) → get_or (halves xs) (2 * s) 0 ≡ get_or xs s 0 % 4294967296
 unfolding halves
 halves_low [] s = refl
 halves_low (x ∷ xs) zero = refl
 halves_low (x ∷ xs) (suc s) = let e : 2 * suc s ≡ suc (suc (2 * s)) = omega arith in rw e (halves_low xs s)
 
-halves_high : (xs : List ℕ) (s : ℕ) → get_or (halves xs) (2 * s + 1) 0 ≡ get_or xs s 0 / 4294967296
+pub halves_high : (xs : List ℕ) (s : ℕ) → get_or (halves xs) (2 * s + 1) 0 ≡ get_or xs s 0 / 4294967296
 unfolding halves
 halves_high [] s = refl
 halves_high (x ∷ xs) zero = refl

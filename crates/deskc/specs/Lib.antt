@@ -6,3 +6,4 @@ pub mod Calls
 pub mod Maps
 pub mod Files
 pub mod Laws
+pub mod LoopLaws

@@ -39,7 +39,7 @@ pub extern "C" fn desk_open(
     ensures value { result ≡ (open_row (task n k start goal pull excess passages.now estimates.now) machine.old).code }
     ensures machine_after { machine.new ≡ (open_row (task n k start goal pull excess passages.now estimates.now) machine.old).row }
 {
-    if machine.len() != 1319 {
+    if machine.len() != row::ROW {
         return row::unfit();
     }
     let w = weights::clamp(pull);

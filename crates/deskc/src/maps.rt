@@ -18,10 +18,7 @@ pub fn survey_code(survey: Result<Survey, MapFault>) -> u64
 pub fn spot_code(spot: Option<Spot>) -> u32
     ensures { result ≡ spot_code spot }
 {
-    match spot {
-        Some(spot) => u32::from(spot.row) * 65536 + u32::from(spot.column),
-        None => u32::MAX,
-    }
+    spot.map_or(u32::MAX, u32::from)
 }
 
 // The state; 65,535 where there is none.

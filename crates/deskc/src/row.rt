@@ -14,7 +14,7 @@ use rule::Refusal;
 use std::array;
 
 // How many numbers a row has, and where its parts begin: n, k, start and goal, a place each, come before the two weights.
-const ROW: usize = 1319;
+pub const ROW: usize = 1319;
 
 const WEIGHTS: usize = 4;
 
@@ -51,11 +51,11 @@ pub fn is_row(row: &[u32]) -> bool
     ensures { result ≡ is_row row.now }
 {
     row.len() == ROW
-        && at_most(&row[WEIGHTS..PHASE], u16::MAX as u32)
-        && at_most(&row[PHASE..MARKS], u8::MAX as u32)
-        && at_most(&row[MARKS..LABELS], u8::MAX as u32)
-        && at_most(&row[VIAS..HELD], u16::MAX as u32)
-        && at_most(&row[HELD..KEYS], u16::MAX as u32)
+        && at_most(&row[WEIGHTS..PHASE], u32::from(u16::MAX))
+        && at_most(&row[PHASE..MARKS], u32::from(u8::MAX))
+        && at_most(&row[MARKS..LABELS], u32::from(u8::MAX))
+        && at_most(&row[VIAS..HELD], u32::from(u16::MAX))
+        && at_most(&row[HELD..KEYS], u32::from(u16::MAX))
 }
 
 // N numbers that stand one after the other, from the front on.

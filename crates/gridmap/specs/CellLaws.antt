@@ -39,10 +39,10 @@ module _ (m : Map) where
 
   -- what a byte that was read says of its place
   module _ (p b : ℕ) (e : b ≡ byte_at m p) where
-    feed_is : column_of m p ≡ m.width → place_right m p ≡ eqb b (code "\n")
+    pub feed_is : column_of m p ≡ m.width → place_right m p ≡ eqb b (code "\n")
     feed_is q = rw (eq-eqb _ _ q, e)
 
-    cell_is : (column_of m p ≡ m.width → ⊥) → place_right m p ≡ is_open b || is_closed b
+    pub cell_is : (column_of m p ≡ m.width → ⊥) → place_right m p ≡ is_open b || is_closed b
     cell_is q = rw (ne_eqb _ _ q, e)
 
   -- a row is right where each of its cells is one and a line feed is its last byte

@@ -14,6 +14,7 @@ pub mod EstimateLaws
 pub mod NeighbourLaws
 pub mod PassageLaws
 pub mod RowLaws
+pub mod LoopLaws
 pub mod WritingLaws
 pub mod CheckLaws
 pub mod ReadingLaws

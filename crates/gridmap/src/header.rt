@@ -6,7 +6,7 @@ ghost use Rattle.gridmap.specs.Laws.{map_with, word_read, size_read};
 
 use super::Grid;
 
-// The byte at a place; 0 past the end.
+// The byte at a place; 0 past the end, which no map has anywhere. Places in a head are at most 64, so that what is added to them fits.
 #[tactic(auto, unfolding(crate::specs::Text::byte))]
 pub fn byte(text: &[u8], i: usize) -> u8
     ensures { result ≡ byte text.now i }

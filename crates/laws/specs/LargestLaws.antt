@@ -1,16 +1,34 @@
 -- The largest of the values at the numbers below n.
 -- Assumes nothing.
-use Rattle.std.specs.Prelude.{◌≡◌, Bool, true, false, cond, ℕ, zero, suc, ◌≤◌, ◌<◌, max, ltb}
+use Rattle.std.specs.Prelude.{◌≡◌, Bool, true, false, cond, ℕ, zero, suc, ◌+◌, ◌≤◌, ◌<◌, max, ltb}
 use Rattle.std.proofs.Math.Path.{refl}
 use Rattle.std.proofs.Math.Decide.{ℕ_discrete}
-use Rattle.std.proofs.Common.{arith}
+use Rattle.std.proofs.Common.{add-one, arith}
 use Rattle.laws.specs.Fold.{fold}
-use borrow.Author.Tests.{ltb-true, ltb-false}
+use borrow.Author.Tests.{ltb-true, ltb-false, lt-ltb, le-ltb}
 
 -- the largest of f 0, f 1, .. f (n - 1); 0 where there is none
 unfoldable pub largest : (ℕ → ℕ) → ℕ → ℕ
 largest f zero = 0
 largest f (suc i) = cond (ltb (largest f i) (f i)) (f i) (largest f i)
+
+-- steps of a loop that keeps the largest so far
+module _ (f : ℕ → ℕ) where
+  pub largest_zero : 0 ≡ largest f 0
+  unfolding largest
+  largest_zero = refl
+
+  module _ (i most : ℕ) (e : most ≡ largest f i) where
+    pub largest_up : most < f i → f i ≡ largest f (i + 1)
+    unfolding largest
+    largest_up l = rw (add-one i, ← e, lt-ltb most (f i) l)
+
+    pub largest_kept : f i ≤ most → most ≡ largest f (i + 1)
+    unfolding largest
+    largest_kept l = rw (add-one i, ← e, le-ltb most (f i) l)
+
+    pub largest_end : (n : ℕ) → i ≤ n → n ≤ i → most ≡ largest f n
+    largest_end n l g = let q : i ≡ n = omega arith in rw q at e
 
 -- no value is above it
 pub largest_at : (f : ℕ → ℕ) (n i : ℕ) → i < n → f i ≤ largest f n

@@ -6,4 +6,5 @@ pub mod Status
 pub mod Laws
 pub mod PageLaws
 pub mod LineLaws
+pub mod LoopLaws
 pub mod SessionLaws

@@ -11,7 +11,7 @@ use Rattle.report.specs.PageLaws.{Written, written_next}
 use Rattle.report.specs.Laws.{spaced}
 
 -- a number takes so many places at most
-decimal_most : (most n : ℕ) → length (decimal_in most n) ≤ most
+pub decimal_most : (most n : ℕ) → length (decimal_in most n) ≤ most
 unfolding decimal_in
 decimal_most zero n = omega arith
 decimal_most (suc more) n = go (ltb n 10) (decimal_most more (n / 10))
@@ -20,7 +20,7 @@ decimal_most (suc more) n = go (ltb n 10) (decimal_most more (n / 10))
     go true h = omega arith
     go false h = rw length-append (omega arith)
 
-decimal_le : (n : ℕ) → length (decimal n) ≤ 20
+pub decimal_le : (n : ℕ) → length (decimal n) ≤ 20
 decimal_le n = decimal_most 20 n
 
 -- none is cut off a number of 64 bits: it can be read back

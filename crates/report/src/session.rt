@@ -39,7 +39,7 @@ pub fn tell(page: &mut Page, m: Machine, passages: &[u32], estimates: &[u32], ev
     ensures { Said m passages.now estimates.now event page.old page.new result }
 {
     let answer = desk::called(m, true, passages, estimates, event);
-    page.reply(u64::from(event % 65536), answer.reply);
+    page.reply(u64::from(event % desk::CALL), answer.reply);
     put_after(page, answer.reply, answer.machine, passages, estimates);
     answer.machine
 }
@@ -94,6 +94,7 @@ pub fn put_session(
 }
 
 // A file: its task and calls, or its fault alone.
+// The three arrays stand in `ending_of` too: a function that handed them out would copy 66 KB, and nothing here is on the heap.
 pub fn put_file(page: &mut Page, file: &[u8])
     requires { Room 558592 page.old }
     ensures { Written (printed file.now) page.old page.new }

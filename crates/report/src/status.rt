@@ -22,7 +22,7 @@ impl From<Ending> for u8 {
     }
 }
 
-// By what reading the file and opening its task come to. The arrays stand here as in `put_file`: a function that both shared would
+// By what reading the file and opening its task come to; with the three arrays that `put_file` has too. The arrays stand here as in `put_file`: a function that both shared would
 // have to copy them out.
 pub fn ending_of(file: &[u8]) -> Ending
     ensures { result ≡ ending_of file.now }

@@ -24,7 +24,7 @@ pub const OUT: u8 = 2;
 
 pub const FINISHED: u8 = 3;
 
-// The cost that marks a blocked passage.
+// The cost that marks a blocked passage. A number and no Option: the slices that are lent have it so.
 pub const BLOCKED: u32 = 4_294_967_295;
 
 // The most that a task has of each: states, workers, and passages.

@@ -44,8 +44,8 @@ pub scan : Fixes c.records.scan.ended f.records.scan.Reads.Learnt
 scan κs a x y p q i = (same p q i, x.1)
 
 -- fill.rt
-pub passage_from : Fixes c.fill.passage.ended f.fill.passage.Reads.Learnt
-passage_from κs a x y p q i = (same p q i, x.1)
+pub put_passage : Fixes c.fill.put_passage.ended f.fill.put_passage.Reads.Learnt
+put_passage κs a x y p q i = (tt, (tt, (tt, (same p q i, tt))))
 
 pub put_row : Fixes c.fill.put_row.ended f.fill.put_row.Reads.Learnt
 put_row κs a x y p q i = (tt, (tt, (tt, (same p q i, tt))))

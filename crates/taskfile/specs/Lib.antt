@@ -15,3 +15,4 @@ pub mod CarriedLaws
 pub mod WritingLaws
 pub mod CursorLaws
 pub mod PutLaws
+pub mod LoopLaws

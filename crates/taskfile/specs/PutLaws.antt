@@ -67,7 +67,7 @@ unfolding passage_record
 passage_same passages many i l = rw (from_is passages many i l, to_is passages many i l, cost_is passages many i l)
 
 -- a row: its number, then its estimates
-pub row_put : (r size : ℕ) (row : List ℕ) (c c₀ c₁ c₂ : Cursor) → c.at + (6 + 4 * length row) ≤ length c.buffer.now → size ≡ row_length (length row)
+pub row_put : (r size : ℕ) (row : List ℕ) (c c₀ c₁ c₂ : Cursor) → c.at + 6 ≤ length c.buffer.now → size ≡ row_length (length row)
     → c₀ ≡ written c (bytes_of 2 size ++ bytes_of 2 row_kind)
     → c₁ ≡ written c₀ (bytes_of 2 r)
     → c₂ ≡ written c₁ (row_bytes row)

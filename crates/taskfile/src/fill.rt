@@ -10,15 +10,13 @@ use super::layout::{CALL_LENGTH, FRONT, call_place, passage_place, row_place};
 use super::{Contents, PER_CALL, Scan, bytes};
 
 // A passage's three numbers.
-pub fn passage(file: &[u8], at: usize) -> [u32; 3]
-    requires { at + 12 ≤ length file.now }
-    ensures { result ≡ word file.now (at + 4) ∷ word file.now (at + 6) ∷ long file.now (at + 8) ∷ [] }
+pub fn put_passage(file: &[u8], at: usize, three: &mut [u32])
+    requires { (at + 12 ≤ length file.now) × (length three.old ≡ 3) }
+    ensures { three.new ≡ word file.now (at + 4) ∷ word file.now (at + 6) ∷ long file.now (at + 8) ∷ [] }
 {
-    [
-        u32::from(bytes::word(file, at + 4)),
-        u32::from(bytes::word(file, at + 6)),
-        bytes::long(file, at + 8),
-    ]
+    three[0] = u32::from(bytes::word(file, at + 4));
+    three[1] = u32::from(bytes::word(file, at + 6));
+    three[2] = bytes::long(file, at + 8);
 }
 
 // One row of estimates.
@@ -83,7 +81,7 @@ impl Whole<'_> {
     {
         // By place: what `chunks_exact_mut` lends is no longer known to hold what was written once it is back.
         for i in 0..self.scan.passages {
-            passages[3 * i..3 * i + 3].copy_from_slice(&passage(self.file, passage_place(i)));
+            put_passage(self.file, passage_place(i), &mut passages[3 * i..3 * i + 3]);
         }
     }
 
@@ -93,6 +91,7 @@ impl Whole<'_> {
         ensures { estimates.new ≡ overlaid 0 (file_estimates self.now.file.now self.now.scan.passages self.now.scan.n) estimates.old }
     {
         let n = self.scan.n;
+        // By number: a row's place in the file follows from it. (n may be 0, where `chunks_exact` can't be called.)
         for r in 0..n {
             let at = row_place(self.scan.passages, n, r);
             put_row(self.file, at, &mut estimates[r * n..r * n + n]);

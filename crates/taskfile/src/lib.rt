@@ -28,7 +28,7 @@ pub const MOST_BYTES: usize = 65536;
 // An event is one number: so much for each call, 0 Take and 1 Bring, plus the worker.
 pub const PER_CALL: u32 = 65536;
 
-// A scan at its next record: n of the head, 0 before it; and how many passages, rows and calls there were.
+// A scan at its next record: n of the head, 0 before it, which is no task's n; and how many passages, rows and calls there were.
 #[derive(Clone, Copy, Default)]
 pub struct Scan {
     pub at: usize,

@@ -104,6 +104,7 @@ impl Cursor<'_> {
         requires { (self.old.at + n * (6 + 4 * n) ≤ length self.old.buffer.now) × (n * n ≤ length estimates.now) }
         ensures { Puts (gathered (row_record estimates.now n) n) (n * (6 + 4 * n)) self.old self.new }
     {
+        // By number, since a row begins with it. (n may be 0, where `chunks_exact` can't be called.)
         for r in 0..n {
             self.put_row(r, &estimates[r * n..r * n + n]);
         }

@@ -2,3 +2,4 @@
 pub mod Trail
 pub mod Seen
 pub mod Laws
+pub mod LoopLaws

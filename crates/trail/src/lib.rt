@@ -61,6 +61,7 @@ impl Trail<'_> {
         ensures { result ≡ counted (length (path (seen self.now))) }
     {
         let mut s = self.goal;
+        // So many steps at most; no slice is gone over.
         for i in 0..self.n {
             if is_home(self.start, s, self.label[s]) {
                 return Some(i + 1);

@@ -1,7 +1,7 @@
 -- The loop's start, turn and end are the laws on `Leading`; a state leads from now on where it is open, wins, comes after the last one and isn't the goal.
 use Rattle.std.proofs.Common.{refl, ◌∙◌, sym, arith, inl, inr}
 use Rattle.dealing.specs.LimitedRowLaws.{comes_shut, comes_goal, comes_late, comes_next}
-use Rattle.dealing.specs.LimitedLeadLaws.{leading_zero, leading_skip, leading_lost, leading_won, leading_end}
+use Rattle.dealing.specs.LimitedLeadLaws.{leading_zero, leading_skip, leading_lost, leading_won, leading_stop}
 use Rattle.dealing.proofs.Ranked.lead.Goals as goal
 use Rattle.dealing.proofs.Ranked.lead.Goals.{then-wins+then-comes_after+then-t-self, else-wins, else-wins-via-then-wins+then-comes_after+else-t-self, else-wins-via-then-wins+else-comes_after, else-wins-via-else-wins}
 
@@ -30,4 +30,4 @@ loop-t-preserved c = (
 )
 
 pub returns : goal.returns
-returns c = leading_end _ _ _ _ _ _ _ _ _ c.loop-t.invariant.0 _ c.min-t-end.ensures c.loop-t-test.false c.loop-t.invariant.1
+returns c = leading_stop _ _ _ _ _ _ _ _ _ c.loop-t.invariant.0 _ c.min-t-end.ensures c.loop-t-test.false c.loop-t.invariant.1

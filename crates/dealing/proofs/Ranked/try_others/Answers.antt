@@ -1,5 +1,5 @@
 -- Each end of the loop's turn is one law on `Trying`, with what the test of s says of the board; past a test that failed the leads are those after s.
-use Rattle.std.proofs.Common.{◌≡◌, ◌≤◌, ◌-◌, ◌∙◌, sym, ap, rules, inl, inr, ⊎_elim, not, true≢false}
+use Rattle.std.proofs.Common.{◌≡◌, ◌≤◌, ◌-◌, ◌∙◌, sym, ap, rules, inl, inr, ⊎_elim, not, true≢false, arith}
 use Rattle.std.specs.Option.{is_some}
 use Rattle.laws.specs.Chains.{below}
 use Rattle.dealing.specs.Seen.{seen}
@@ -34,7 +34,7 @@ its_leads c =
           w.leads-is
           ∙ rw beside
           (led_renewed _ _ _ _ _ c.args.self.now.board.table.whole.states _ _
-          (⊎_elim (λ q. absurd (true≢false (sym (c.is_none.ensures ∙ ap not w.if-is_none.false) ∙ ap is_some q))) (λ q. rw c.in-Some.is at q) c.loop-candidate.invariant.1) o.below (rw beside at w.block_lead.ensures))
+          (⊎_elim (λ q. absurd (true≢false (sym (c.is_none.ensures ∙ ap not w.if-is_none.false) ∙ ap is_some q))) (λ q. rw c.in-Some.is at q) c.loop-candidate.invariant.1) (λ q. omega (arith, o.below)) (rw beside at w.block_lead.ensures))
     ]
 
 its_number : (c : After-foremost_lead-candidate)

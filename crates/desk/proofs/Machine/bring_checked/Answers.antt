@@ -6,7 +6,7 @@ use Rattle.desk.specs.Reply.{refused}
 use Rattle.desk.specs.Laws.{sound_sizes, turned_away, not_ready, goes_on, Carried, run_zero, run_brought, run_asks, run_skip, run_blocked, run_kept, run_set}
 use Rattle.desk.proofs.Calls.{leaves, leaves_turned, refused_by, let_in, worker_in, empty, holds, carries, clear}
 use Rattle.desk.proofs.Machine.bring_checked.Goals as goal
-use Rattle.desk.proofs.Machine.bring_checked.Goals.{In_ok-s, then-passage-s+then-is_clear+then-lower, else-passage-s, else-passage-s-via-then-passage-s+then-is_clear+else-lower, else-passage-s-via-then-passage-s+else-is_clear, else-passage-s-via-else-passage-s}
+use Rattle.desk.proofs.Machine.bring_checked.Goals.{In_ok-s, then-passages-i+then-is_clear+then-lower, then-passages-i+else-is_clear, else-is_clear-via-then-is_clear+else-lower, else-is_clear-via-else-is_clear, else-passages-i}
 
 -- the state that the worker holds can be brought
 can : (c : In_ok-s) → Carried c.args.self.now c.args.passages.now c.args.estimates.now c.in_ok-s.s
@@ -17,7 +17,7 @@ hands-requires c = sound_sizes _ _ _ c.requires
 
 pub returns-in_err-hands : goal.returns-in_err-hands
 unfolding bring_of
-returns-in_err-hands c = leaves_turned _ c.from_residual.ensures.1 (turned_away _ _ _ _ _ c.requires _ c.in_err-hands.ensures _ _)
+returns-in_err-hands c = leaves_turned _ c.from_residual.ensures.1 (turned_away _ _ _ _ _ _ c.requires _ c.in_err-hands.ensures _ _)
 
 pub returns-in_err-s : goal.returns-in_err-s
 unfolding bring_of
@@ -53,27 +53,27 @@ overflow_add-many c = omega (arith, (can (goal.at.overflow_add-many c).In_ok-s).
 pub loop-i-preserved : goal.loop-i-preserved
 loop-i-preserved c =
     let plus : ℕ → ℕ = λ (k : ℕ). label_of c.args.self.now c.in_ok-s.s + k in
-    elim c.if-passage-s.branch [
-      | then-passage-s+then-is_clear+then-lower w ↦
+    elim c.if-passages-i.branch [
+      | then-passages-i+then-is_clear+then-lower w ↦
           rw (w.self-is, w.many-is)
-          (run_set _ _ _ _ _ _ c.loop-i.i c.loop-i.invariant c.loop-i-test.true (sym c.read-passage.ensures.near ∙ w.if-passage-s.true)
-          (clear _ _ c.read-passage.ensures.cost (sym w.is_clear.ensures ∙ w.if-is_clear.true))
-          _ _ c.read-passage.ensures.far (ap plus c.read-passage.ensures.cost) _ w.lower.ensures.lowered _ w.lower.ensures.machine w.if-lower.true)
-      | else-passage-s w ↦
-          elim w.else-passage-s.branch [
-            | else-passage-s-via-then-passage-s+then-is_clear+else-lower v ↦
+          (run_set _ _ _ _ _ _ c.loop-i.i c.loop-i.invariant c.loop-i-test.true w.if-passages-i.true
+          (clear _ _ w.read-passage.ensures.cost (sym w.is_clear.ensures ∙ w.if-is_clear.true))
+          _ _ w.read-passage.ensures.far (ap plus w.read-passage.ensures.cost) _ w.lower.ensures.lowered _ w.lower.ensures.machine w.if-lower.true)
+      | then-passages-i+else-is_clear w ↦
+          elim w.else-is_clear.branch [
+            | else-is_clear-via-then-is_clear+else-lower v ↦
                 rw (w.self-is, w.many-is, v.self-is)
-                (run_kept _ _ _ _ _ _ c.loop-i.i c.loop-i.invariant c.loop-i-test.true (sym c.read-passage.ensures.near ∙ v.if-passage-s.true)
-                (clear _ _ c.read-passage.ensures.cost (sym v.is_clear.ensures ∙ v.if-is_clear.true))
-                _ _ c.read-passage.ensures.far (ap plus c.read-passage.ensures.cost) _ v.lower.ensures.lowered _ v.lower.ensures.machine v.if-lower.false)
-            | else-passage-s-via-then-passage-s+else-is_clear v ↦
+                (run_kept _ _ _ _ _ _ c.loop-i.i c.loop-i.invariant c.loop-i-test.true w.if-passages-i.true
+                (clear _ _ w.read-passage.ensures.cost (sym w.is_clear.ensures ∙ v.if-is_clear.true))
+                _ _ w.read-passage.ensures.far (ap plus w.read-passage.ensures.cost) _ v.lower.ensures.lowered _ v.lower.ensures.machine v.if-lower.false)
+            | else-is_clear-via-else-is_clear v ↦
                 rw (w.self-is, w.many-is, v.self-is)
-                (run_blocked _ _ _ _ _ _ c.loop-i.i c.loop-i.invariant c.loop-i-test.true (sym c.read-passage.ensures.near ∙ v.if-passage-s.true)
-                (clear _ _ c.read-passage.ensures.cost (sym v.is_clear.ensures ∙ v.if-is_clear.false)))
-            | else-passage-s-via-else-passage-s v ↦
-                rw (w.self-is, w.many-is, v.self-is)
-                (run_skip _ _ _ _ _ _ c.loop-i.i c.loop-i.invariant c.loop-i-test.true (λ q. v.if-passage-s.false (c.read-passage.ensures.near ∙ q)))
+                (run_blocked _ _ _ _ _ _ c.loop-i.i c.loop-i.invariant c.loop-i-test.true w.if-passages-i.true
+                (clear _ _ w.read-passage.ensures.cost (sym w.is_clear.ensures ∙ v.if-is_clear.false)))
           ]
+      | else-passages-i w ↦
+          rw (w.self-is, w.many-is)
+          (run_skip _ _ _ _ _ _ c.loop-i.i c.loop-i.invariant c.loop-i-test.true w.if-passages-i.false)
     ]
 
 pub bounds-self-s-2 : goal.bounds-self-s-2

@@ -14,7 +14,7 @@ hands-requires c = sound_sizes _ _ _ c.requires
 
 pub returns-in_err-hands : goal.returns-in_err-hands
 unfolding limited_answer
-returns-in_err-hands c = counted_turned _ c.from_residual.ensures.1 (limited_refused _ _ _ _ _ _ (turned_away _ _ _ _ _ c.requires _ c.in_err-hands.ensures _ _))
+returns-in_err-hands c = counted_turned _ c.from_residual.ensures.1 (limited_refused _ _ _ _ _ _ (turned_away _ _ _ _ _ _ c.requires _ c.in_err-hands.ensures _ _))
 
 pub returns-then-is_some : goal.returns-then-is_some
 unfolding limited_answer

@@ -13,7 +13,7 @@ loop-i-preserved c =
     let first = 3 * c.loop-i.i in
     let file = c.args.self.now.file.now in
     passages_more file _ c.loop-i.passages _ c.loop-i.i c.loop-i.invariant (omega arith)
-    (put_part first (first + 3 - first) c.loop-i.passages _ (passage_in file c.loop-i.i) (c.copy_from_slice.ensures.after ∙ c.passage.ensures ∙ rw c.passage_place.ensures) (omega (arith, passage_length_lem file c.loop-i.i)))
+    (put_part first (first + 3 - first) c.loop-i.passages _ (passage_in file c.loop-i.i) (c.put_passage.ensures ∙ rw c.passage_place.ensures) (omega (arith, passage_length_lem file c.loop-i.i)))
 
 pub returns : goal.returns
 unfolding file_passages passage_in
