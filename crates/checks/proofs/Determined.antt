@@ -17,6 +17,9 @@ ends_right = (λ κs a. tt, λ κs a x y p q i. (same p q i, x.1))
 pub weights_right : Answers c.opening.weights_right.ended f.opening.weights_right.Reads.Asked f.opening.weights_right.Reads.Learnt
 weights_right = (λ κs a. tt, λ κs a x y p q i. (same p q i, x.1))
 
+pub span_right : Answers c.opening.span_right.ended f.opening.span_right.Reads.Asked f.opening.span_right.Reads.Learnt
+span_right = (λ κs a. tt, λ κs a x y p q i. (same p q i, x.1))
+
 pub passages_right : Answers c.opening.passages_right.ended f.opening.passages_right.Reads.Asked f.opening.passages_right.Reads.Learnt
 passages_right = (λ κs a. tt, λ κs a x y p q i. (same p q i, x.1))
 

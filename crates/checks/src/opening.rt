@@ -47,9 +47,12 @@ pub fn weights_right(pull: u16, excess: u16) -> bool
     (LEAST_EXCESS..=MOST_EXCESS).contains(&excess) && pull <= excess
 }
 
-// 4: both ends of each passage are states, and no cost is too high, but for a blocked passage's. Of the ends the largest is compared,
-// and neither pass has a way out but its end, so that several passages can be looked at at a time.
-pub fn passages_right(passages: &[u32], n: usize) -> bool
+// How many passages check 4 looks at before it asks whether one of them was wrong.
+pub const SPAN: usize = 128;
+
+// 4, of a span of passages: both ends of each are states, and no cost is too high, but for a blocked passage's. Of the ends the largest
+// is compared, and neither pass has a way out but its end, so that several passages can be looked at at a time.
+pub fn span_right(passages: &[u32], n: usize) -> bool
     ensures { result ≡ passages_right passages.now n }
 {
     let count = passages.len() / 3;
@@ -61,6 +64,16 @@ pub fn passages_right(passages: &[u32], n: usize) -> bool
         right & ((cost == rule::BLOCKED) | (cost <= rule::MOST_COST))
     });
     ((count == 0) | ((end as usize) < n)) & costs
+}
+
+// 4: span by span, so that a wrong passage ends it there.
+pub fn passages_right(passages: &[u32], n: usize) -> bool
+    ensures { result ≡ passages_right passages.now n }
+{
+    (0..passages.len() / (3 * SPAN) + 1).all(|b| {
+        let from = 3 * SPAN * b;
+        span_right(&passages[from..passages.len().min(from + 3 * SPAN)], n)
+    })
 }
 
 // One row of 5: no estimate is too large, and the one on the diagonal is 0.
@@ -78,11 +91,14 @@ pub fn estimates_right(table: &Table) -> bool
     (0..table.n).all(|a| row_right(table, a))
 }
 
-// 6: no estimate is above the cost of a passage that isn't blocked.
+// 6: no estimate is above the cost of a passage that isn't blocked. On its own, and with the table at hand: else the loop fetches from
+// memory, for each passage, where the estimates are.
+#[inline(never)]
 pub fn passages_bound(passages: &[u32], table: &Table) -> bool
     requires { passages_right passages.now table.now.n ≡ true }
     ensures { result ≡ passages_bound passages.now table.now.estimates.now table.now.n }
 {
+    let table = *table;
     (0..passages.len() / 3).all(|i| {
         let passage = Passage::read(passages, i);
         !passage.is_clear() || table.between(passage.near, passage.far) <= passage.cost

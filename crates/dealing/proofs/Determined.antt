@@ -5,8 +5,14 @@ use Rattle.dealing.specs.contracts as c
 use Rattle.dealing.proofs as f
 
 -- board.rt
+pub holds_off_by : Fixes c.board.Board.holds_off_by.ended f.board.Board.holds_off_by.Reads.Learnt
+holds_off_by κs a x y p q i = (same p q i, x.1)
+
 pub holds_off : Fixes c.board.Board.holds_off.ended f.board.Board.holds_off.Reads.Learnt
 holds_off κs a x y p q i = (same p q i, x.1)
+
+pub depends_by : Fixes c.board.Board.depends_by.ended f.board.Board.depends_by.Reads.Learnt
+depends_by κs a x y p q i = (same p q i, x.1)
 
 pub depends_on : Fixes c.board.Board.depends_on.ended f.board.Board.depends_on.Reads.Learnt
 depends_on κs a x y p q i = (same p q i, x.1)

@@ -467,9 +467,12 @@ module _ (goal pull : ℕ) (b : Board) (row : List ℕ) (limit : ℕ) (held : Op
         let z = foremost_any goal pull b o in
         absurd (omega (arith, foremost_passes goal pull b u z, foremost_stopped goal pull b g.shut (omega (arith, all_chosen, none_chosen)) z))
 
-    pub limits_none : None ≡ below b.n (first_marked b.mark b.n out) → decided NoPath m ≡ limited goal pull b limit
+    pub limits_quiet : any_out b ≡ false → decided NoPath m ≡ limited goal pull b limit
     unfolding limited limited_decision
-    limits_none n = let u = out_none b n in rw (all_made, failed.0, g.shut, quiet u (any_open b) refl, u, failed.3)
+    limits_quiet u = rw (all_made, failed.0, g.shut, quiet u (any_open b) refl, u, failed.3)
+
+    pub limits_none : None ≡ below b.n (first_marked b.mark b.n out) → decided NoPath m ≡ limited goal pull b limit
+    limits_none n = limits_quiet (out_none b n)
 
     -- the first of the others didn't pass
     first_stopped : Other goal b (next goal pull b b.n) → stops_at goal pull b (next goal pull b b.n) < b.n

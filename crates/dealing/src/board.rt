@@ -1,5 +1,5 @@
 // What states are compared by, and which state another depends on.
-ghost use Rattle.std.specs.Prelude.{◌≡◌, ◌≤◌, ◌<◌};
+ghost use Rattle.std.specs.Prelude.{◌≡◌, ◌≤◌, ◌<◌, get_or};
 ghost use Rattle.laws.specs.Chains.{below};
 ghost use Rattle.dealing.specs.Board.{depends_on, first_dependence, safe, first_marked};
 ghost use Rattle.dealing.specs.LimitedRowLaws.{holds_off};
@@ -17,24 +17,38 @@ pub struct Board<'t, 'a> {
 }
 
 impl Board<'_, '_> {
-    // t holds s off: s isn't independent of it.
+    // t holds s off: s isn't independent of it. The label of s stands beside it: a loop over t reads it once.
     #[tactic(auto, unfolding(crate::specs::LimitedRowLaws::holds_off))]
+    pub fn holds_off_by(&self, s: usize, label_s: u32, t: usize) -> bool
+        requires { ((s < self.now.table.n) × (t < self.now.table.n)) × (label_s ≡ get_or self.now.label.now s 0) }
+        ensures { result ≡ holds_off (seen self.now) s t }
+    {
+        let h = self.table.between(t, s);
+        !rule::independent(label_s, self.label[t], self.excess, h)
+    }
+
     pub fn holds_off(&self, s: usize, t: usize) -> bool
         requires { (s < self.now.table.n) × (t < self.now.table.n) }
         ensures { result ≡ holds_off (seen self.now) s t }
     {
-        let h = self.table.between(t, s);
-        !rule::independent(self.label[s], self.label[t], self.excess, h)
+        self.holds_off_by(s, self.label[s], t)
     }
 
-    // s depends on t: t is another state, open or out, and s isn't independent of it.
+    // s depends on t: t is another state, open or out, and s isn't independent of it. The label of s stands beside it.
     #[tactic(auto, unfolding(crate::specs::Board::depends_on, crate::specs::LimitedRowLaws::holds_off, rule::specs::Rule::holds_back))]
+    pub fn depends_by(&self, s: usize, label_s: u32, t: usize) -> bool
+        requires { ((s < self.now.table.n) × (t < self.now.table.n)) × (label_s ≡ get_or self.now.label.now s 0) }
+        ensures { result ≡ depends_on (seen self.now) s t }
+    {
+        // The mark first: the estimates to s lie a row apart, and most are left unread where few states are open or out.
+        rule::is_live(self.mark[t]) && t != s && self.holds_off_by(s, label_s, t)
+    }
+
     pub fn depends_on(&self, s: usize, t: usize) -> bool
         requires { (s < self.now.table.n) × (t < self.now.table.n) }
         ensures { result ≡ depends_on (seen self.now) s t }
     {
-        // The mark first: the estimates to s lie a row apart, and most are left unread where few states are open or out.
-        rule::is_live(self.mark[t]) && t != s && self.holds_off(s, t)
+        self.depends_by(s, self.label[s], t)
     }
 
     // The first state that s depends on.

@@ -62,6 +62,8 @@ fn wins(key: u64, leader: Option<(usize, u64)>) -> bool
 impl Ranked<'_, '_> {
     // The safe state with the smallest key, the lowest number among equals. Where none is safe, the test of the open state
     // with the smallest key, the lowest number among equals, says where it stopped.
+    // On its own: as a part of Take its inner loop had too few registers, and fetched the label of s and the row's step anew for each t.
+    #[inline(never)]
     pub fn choose(&self) -> Choice
         ensures { result ≡ choose self.now.goal self.now.pull (seen self.now.board) }
     {
@@ -80,8 +82,9 @@ impl Ranked<'_, '_> {
             if !wins(key_s, best) {
                 continue 'candidates;
             }
+            let label_s = board.label[s];
             for t in 0..board.table.n {
-                if board.depends_on(s, t) {
+                if board.depends_by(s, label_s, t) {
                     if wins(key_s, front) {
                         front = Some((t, key_s));
                     }

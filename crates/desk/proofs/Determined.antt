@@ -5,6 +5,9 @@ use Rattle.desk.specs.contracts as c
 use Rattle.desk.proofs as f
 
 -- lib.rt
+pub refused_code : Answers c.refused_code.ended f.refused_code.Reads.Asked f.refused_code.Reads.Learnt
+refused_code = (λ κs a. tt, λ κs a x y p q i. (same p q i, x.1))
+
 pub reply_code : Answers c.U64FromReply.from.ended f.U64FromReply.from.Reads.Asked f.U64FromReply.from.Reads.Learnt
 reply_code = (λ κs a. tt, λ κs a x y p q i. (same p q i, x.1))
 

@@ -195,7 +195,7 @@ module _ (passages estimates : List ℕ) where
   after_sound sound m₀ m es z s e = s ∙ sym (after_stays m₀ es z) ∙ ap (λ (x : Machine). is_sound x passages estimates) (sym e)
 
 -- no refusal has the number 0
-number_above : (refusal : Refusal) → 0 < number_of refusal
+pub number_above : (refusal : Refusal) → 0 < number_of refusal
 number_above BadSizes = omega arith
 number_above BadEnds = omega arith
 number_above BadWeights = omega arith

@@ -12,6 +12,8 @@ use rule::{Refusal, Table};
 impl Machine {
     // Conditions 1 to 4 hold of the machine's numbers and the lent slices, and the stored keys are right. Whether they do is handed on
     // beside the slices, and isn't kept in a struct with them: it is said of a machine that the calls change.
+    // On its own: as a part of Bring it costs one more copy of the machine on the stack.
+    #[inline(never)]
     pub fn is_sound(&self, passages: &[u32], estimates: &[u32]) -> bool
         ensures { result ≡ is_sound self.now passages.now estimates.now }
     {

@@ -4,8 +4,8 @@
 // morning looks once for all its events, and `called` serves one event for a caller that looked before.
 #![tactic(auto)]
 
-ghost use Rattle.std.specs.Prelude.{◌≡◌};
-ghost use Rattle.desk.specs.Reply.{code_of};
+ghost use Rattle.std.specs.Prelude.{◌≡◌, ◌+◌, ◌*◌};
+ghost use Rattle.desk.specs.Reply.{code_of, refusal};
 ghost use Rattle.desk.specs.Morning.{event_of};
 
 use rule::Refusal;
@@ -88,6 +88,13 @@ pub enum Reply {
 // What a reply as a number counts its case in.
 pub const CASE: u64 = 4_294_967_296;
 
+// A refusal as a number, by its own number: one that no refusal of this desk has, too.
+pub fn refused_code(number: u8) -> u64
+    ensures { result ≡ refusal * 4294967296 + number }
+{
+    7 * CASE + u64::from(number)
+}
+
 // A reply as a number, for callers that keep it in a row: its case and the number that it carries.
 impl From<Reply> for u64 {
     ghost from_gives = { λ reply number. number ≡ code_of reply };
@@ -102,7 +109,7 @@ impl From<Reply> for u64 {
             Reply::NoPath => 4 * CASE,
             Reply::Wait(s) => 5 * CASE + u64::from(s),
             Reply::Read(many) => 6 * CASE + u64::from(many),
-            Reply::Refused(refusal) => 7 * CASE + u64::from(u8::from(refusal)),
+            Reply::Refused(refusal) => refused_code(u8::from(refusal)),
             Reply::Done => 8 * CASE,
             Reply::Cut(limit) => 9 * CASE + u64::from(limit),
         }

@@ -24,11 +24,11 @@ pub struct Survey {
     pub passages: u32,
 }
 
-// A cell by its row and column, both from 0.
+// A cell by its row and column, both from 0. The column stands first: so the two lie in memory as the number below, and are read as one.
 #[derive(Clone, Copy, Debug, PartialEq, Eq)]
 pub struct Spot {
-    pub row: u16,
     pub column: u16,
+    pub row: u16,
 }
 
 // Row times 65,536, plus column: a number that rises as the states do.

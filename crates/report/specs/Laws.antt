@@ -1,8 +1,13 @@
 -- Text written piece by piece, and the places that it takes.
-use Rattle.std.specs.Prelude.{◌≡◌, refl, false, cond, List, [], ◌∷◌, ◌++◌, ℕ, ◌+◌, ◌*◌, ◌≤◌, replicate, eqb}
+use Rattle.std.specs.Prelude.{◌≡◌, refl, false, cond, not, List, [], ◌∷◌, ◌++◌, ℕ, ◌+◌, ◌*◌, ◌≤◌, replicate, T, eqb}
+use Rattle.std.proofs.Common.{subst, ◌∙◌, ne_eqb}
+use types.Run.{OneOf, miss}
+use mir.Val.{has_key}
+use denote.Enum.Declared.{tag_of}
 use Rattle.rule.specs.declared.refusals.Refusal.{Refusal}
 use Rattle.desk.specs.declared.Machine.{Machine}
 use Rattle.desk.specs.declared.Reply.{Reply}
+use Rattle.desk.specs.contracts.Reply.{the_type}
 use Rattle.desk.specs.declared.Reply.TheVariants.{Opened, Took, Brought, Found, NoPath, Wait, Read, Refused, Done, Cut}
 use Rattle.desk.specs.Reply.{case_of, when, found, read, refusal}
 use Rattle.desk.specs.Path.{path_of}
@@ -14,6 +19,23 @@ use Rattle.laws.specs.Ascii.{ascii}
 use Rattle.report.specs.Decimal.{decimal}
 use Rattle.report.specs.Line.{path_line, spoken}
 use Rattle.report.specs.PageLaws.{Written}
+
+-- the tag that a match on a reply goes by is the reply's case
+tag_case : (r : Reply) → tag_of the_type r ≡ case_of r
+tag_case Opened = refl
+tag_case (Took s) = refl
+tag_case (Brought many) = refl
+tag_case (Found cost) = refl
+tag_case NoPath = refl
+tag_case (Wait s) = refl
+tag_case (Read many) = refl
+tag_case (Refused why) = refl
+tag_case Done = refl
+tag_case (Cut limit) = refl
+
+-- a match that is left with the tags `others` is left with a reply of another case
+pub other_case : (others : List ℕ) (case : ℕ) (r : Reply) → T (not (has_key others case)) → OneOf others (tag_of the_type r) → eqb (case_of r) case ≡ false
+other_case others case r h o = ne_eqb (case_of r) case (λ e. miss others case h (subst (OneOf others) (tag_case r ∙ e) o))
 
 -- a match that has no refusal left is left with a reply of another case
 abbrev pub NotRefused : Reply → Type 0

@@ -1,75 +1,54 @@
--- The largest end settles the ends, and the costs are settled one by one.
-use Rattle.std.specs.Prelude.{◌≡◌, Bool, true, false, cond, ◌&&◌, ◌||◌, not, ℕ, zero, suc, List, ltb, leb, eqb}
-use Rattle.std.proofs.Common.{rules, refl, max, sym, ap, ◌∙◌, arith, ne_eqb}
-use borrow.Author.Tests.{ltb-true, ltb-false, lt-ltb, le-ltb}
-use Rattle.laws.specs.All.{all, all_zero, all_same}
-use Rattle.laws.specs.Truth.{and_false}
-use Rattle.laws.specs.LargestLaws.{largest, largest_folded}
-use Rattle.laws.specs.Ranges.{fold_over, every_over}
-use Rattle.rule.specs.Task.{passage_count, near, far, cost, blocked, is_clear}
+-- Passage i of a span is passage 128 b + i of all, and each lies in a span.
+use Rattle.std.specs.Prelude.{◌≡◌, true, List, ℕ, ◌+◌, ◌*◌, ◌-◌, ◌/◌, ◌%◌, ◌≤◌, ◌<◌, length, get_or, take, drop}
+use Rattle.std.proofs.Common.{rules, refl, min, sym, ap, subst, ◌∙◌, arith}
+use Rattle.std.proofs.lemmas.List.{get_or-take, get_or-drop, length-take, length-drop}
+use Rattle.laws.specs.All.{all, all_at, all_of}
+use Rattle.laws.specs.Truth.{same_truth}
+use Rattle.laws.specs.Ranges.{all_over}
+use Rattle.rule.specs.Task.{passage_count, near, is_clear}
 use Rattle.checks.specs.Opening.{passage_right, passages_right}
 use Rattle.checks.proofs.opening.passages_right.Goals as goal
 
--- the larger of two is below n where both are
-larger : (a b n : ℕ) (c x y : Bool) → ltb a b ≡ c → ltb a n ≡ x → ltb b n ≡ y → ltb (cond c b a) n ≡ (x && y)
-larger a b n true true y e p q = q
-larger a b n true false true e p q = absurd (omega (arith, ltb-true a b e, ltb-false a n p, ltb-true b n q))
-larger a b n true false false e p q = q
-larger a b n false true true e p q = p
-larger a b n false true false e p q = absurd (omega (arith, ltb-false a b e, ltb-true a n p, ltb-false b n q))
-larger a b n false false y e p q = p
-
-first_end : (a n : ℕ) (c : Bool) → ltb 0 a ≡ c → ltb (cond c a 0) n ≡ ltb a n
-first_end a n true e = refl
-first_end a n false e = ap (λ k. ltb k n) (let none = ltb-false 0 a e in omega arith)
-
--- the largest is, where all are
-ends_from : (f : ℕ → ℕ) (n m : ℕ) → ltb (largest f (suc m)) n ≡ all (λ i. ltb (f i) n) (suc m)
-unfolding all largest
-ends_from f n zero = first_end (f 0) n _ refl
-ends_from f n (suc m) = larger (largest f (suc m)) (f (suc m)) n _ _ _ refl refl refl ∙ ap (λ b. b && ltb (f (suc m)) n) (ends_from f n m)
-
-ends_by : (f : ℕ → ℕ) (n m : ℕ) → (eqb m 0 || ltb (largest f m) n) ≡ all (λ i. ltb (f i) n) m
-ends_by f n zero = sym (all_zero _)
-ends_by f n (suc m) = rw (ne_eqb (suc m) 0 (λ e. absurd (omega (arith, e)))) (ends_from f n m)
-
-swap : (a b c d : Bool) → ((a && b) && (c && d)) ≡ ((a && c) && (b && d))
-swap true b true d = refl
-swap true b false d = and_false b
-swap false b c d = refl
-
-both : (p q : ℕ → Bool) (m : ℕ) → (all p m && all q m) ≡ all (λ i. p i && q i) m
-unfolding all
-both p q zero = refl
-both p q (suc m) = rw (← both p q m) (swap (all p m) (p m) (all q m) (q m))
-
-two_ends : (a b n : ℕ) (x y : Bool) → ltb a n ≡ x → ltb b n ≡ y → ltb (max a b) n ≡ (x && y)
-two_ends a b n true true p q = lt-ltb (max a b) n (omega (arith, ltb-true a n p, ltb-true b n q))
-two_ends a b n true false p q = le-ltb (max a b) n (omega (arith, ltb-false b n q))
-two_ends a b n false y p q = le-ltb (max a b) n (omega (arith, ltb-false a n p))
-
 module _ (passages : List ℕ) (n : ℕ) where
-  abbrev end_at : ℕ → ℕ
-  end_at i = max (near passages i) (far passages i)
+  abbrev size : ℕ → ℕ
+  size b = min (length passages) (384 * b + 384) - 384 * b
 
-  abbrev cost_right : ℕ → Bool
-  cost_right i = eqb (cost passages i) blocked || leb (cost passages i) 1000000
+  abbrev span : ℕ → List ℕ
+  span b = take (size b) (drop (384 * b) passages)
 
-  twice : (b : Bool) → b ≡ not (not b)
-  twice true = refl
-  twice false = refl
+  long : (b : ℕ) → length (span b) ≡ size b
+  long b = length-take (size b) (drop (384 * b) passages) ∙ omega (arith, length-drop (384 * b) passages)
 
-  one : (i : ℕ) → (ltb (end_at i) n && cost_right i) ≡ passage_right passages n i
+  number : (b j : ℕ) → j < size b → get_or (span b) j 0 ≡ get_or passages (384 * b + j) 0
+  number b j l = get_or-take (size b) (drop (384 * b) passages) j 0 l ∙ get_or-drop (384 * b) passages j 0
+
+  at : (b i k : ℕ) → k ≤ 2 → i < passage_count (span b) → get_or (span b) (3 * i + k) 0 ≡ get_or passages (3 * (128 * b + i) + k) 0
+  at b i k m l =
+      number b (3 * i + k) (omega (arith, m, l, long b))
+      ∙ ap (λ (j : ℕ). get_or passages j 0) (let e : 384 * b + (3 * i + k) ≡ 3 * (128 * b + i) + k = omega arith in e)
+
+  one : (b i : ℕ) → i < passage_count (span b) → passage_right (span b) n i ≡ passage_right passages n (128 * b + i)
   unfolding is_clear
-  one i = rw (two_ends (near passages i) (far passages i) n _ _ refl refl, ← twice (eqb (cost passages i) blocked)) refl
+  one b i l =
+      let first : near (span b) i ≡ near passages (128 * b + i) =
+      ap (λ (j : ℕ). get_or (span b) j 0) (let e : 3 * i ≡ 3 * i + 0 = omega arith in e) ∙ at b i 0 (omega arith) l
+      ∙ ap (λ (j : ℕ). get_or passages j 0) (let e : 3 * (128 * b + i) + 0 ≡ 3 * (128 * b + i) = omega arith in e) in
+      rw (first, at b i 1 (omega arith) l, at b i 2 (omega arith) l) refl
+
+  spans : all (λ b. passages_right (span b) n) (length passages / 384 + 1) ≡ passages_right passages n
+  unfolding passages_right
+  spans =
+      same_truth _ _
+      (λ e. all_of _ (passage_count passages) (λ x l.
+      let b = x / 128 in
+      let i = x % 128 in
+      let inside : i < passage_count (span b) = omega (arith, l, long b) in
+      let place : 128 * b + i ≡ x = omega arith in
+      subst (λ (k : ℕ). passage_right passages n k ≡ true) place
+      (sym (one b i inside) ∙ all_at _ (passage_count (span b)) i (all_at _ (length passages / 384 + 1) b e (omega (arith, l))) inside)))
+      (λ e. all_of _ (length passages / 384 + 1) (λ b l. all_of _ (passage_count (span b)) (λ i m. one b i m ∙ all_at _ (passage_count passages) (128 * b + i) e (omega (arith, m, l, long b)))))
 
 pub returns : goal.returns
-unfolding passages_right
 returns c =
-    let p = c.args.passages.now in
-    let n = c.args.n in
-    let m = passage_count p in
-    let end : c.fold-end.result ≡ largest (end_at p n) m =
-    fold_over _ _ (λ i most. max most (end_at p n i)) (λ b x r f h. search rules) 0 _ refl _ c.fold-end.ensures.runs ∙ largest_folded (end_at p n) m in
-    let costs : c.fold-costs.result ≡ all (cost_right p n) m = every_over _ _ (cost_right p n) (λ b x r f h. search rules) _ refl _ c.fold-costs.ensures.runs in
-    rw (end, costs) (ap (λ b. b && all (cost_right p n) m) (ends_by (end_at p n) n m) ∙ both _ _ m ∙ all_same _ _ m (λ i l. one p n i))
+    all_over _ _ (λ b. passages_right (span c.args.passages.now c.args.n b) c.args.n) (λ x r f h. search rules) _ refl _ c.all.ensures.runs
+    ∙ spans c.args.passages.now c.args.n

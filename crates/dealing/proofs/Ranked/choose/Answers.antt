@@ -20,22 +20,22 @@ candidates-preserved-then-not-wins c =
 pub loop-t-init : goal.loop-t-init
 loop-t-init c = (c.candidates.invariant, first_zero _)
 
-pub candidates-preserved-then-depends_on : goal.candidates-preserved-then-depends_on
-candidates-preserved-then-depends_on c =
+pub candidates-preserved-then-depends_by : goal.candidates-preserved-then-depends_by
+candidates-preserved-then-depends_by c =
     let its_key = c.args.self.now.keyed.at _ c.candidates-test.true (eq-eqb _ waiting c.if-board-s-ne-OPEN.false) in
-    let held = sym c.depends_on.ensures ∙ c.if-depends_on.true in
+    let held = sym c.depends_by.ensures ∙ c.if-depends_by.true in
     elim c.if-wins.branch [
       | then-wins w ↦
           rw (w.front-is, its_key)
           (leads_front _ _ _ _ _ _ c.loop-t.invariant.0 _ c.loop-t.invariant.1 held c.loop-t-test.true c.candidates-test.true c.if-board-s-ne-OPEN.false
-          (rw its_key at (sym c.wins-then-depends_on.ensures ∙ w.if-wins.true)))
+          (rw its_key at (sym c.wins-then-depends_by.ensures ∙ w.if-wins.true)))
       | else-wins w ↦
           rw w.front-is
-          (leads_behind _ _ _ _ _ _ c.loop-t.invariant.0 _ c.loop-t.invariant.1 held c.loop-t-test.true (rw its_key at (sym c.wins-then-depends_on.ensures ∙ w.if-wins.false)))
+          (leads_behind _ _ _ _ _ _ c.loop-t.invariant.0 _ c.loop-t.invariant.1 held c.loop-t-test.true (rw its_key at (sym c.wins-then-depends_by.ensures ∙ w.if-wins.false)))
     ]
 
 pub loop-t-preserved : goal.loop-t-preserved
-loop-t-preserved c = (c.loop-t.invariant.0, first_more _ _ c.loop-t.invariant.1 (sym c.depends_on.ensures ∙ c.if-depends_on.false))
+loop-t-preserved c = (c.loop-t.invariant.0, first_more _ _ c.loop-t.invariant.1 (sym c.depends_by.ensures ∙ c.if-depends_by.false))
 
 pub candidates-preserved : goal.candidates-preserved
 candidates-preserved c =

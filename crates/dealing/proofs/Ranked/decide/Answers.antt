@@ -1,5 +1,6 @@
 -- Each return is one law on the decision's ladder, applied to what `choose` and the search for an out state came to.
-use Rattle.std.proofs.Common.{◌∙◌, sym}
+use Rattle.std.proofs.Common.{◌∙◌, sym, ap}
+use Rattle.dealing.specs.declared.Decision.TheVariants.{Wait}
 use Rattle.dealing.specs.Laws.{decides_found, decides_none, decides_deal, decides_stuck, decides_wait, decides_quiet}
 use Rattle.dealing.proofs.Ranked.decide.Goals as goal
 
@@ -23,5 +24,5 @@ returns-in-Stopped-None c =
 
 pub returns-in-Stopped-Some : goal.returns-in-Stopped-Some
 returns-in-Stopped-Some c =
-    rw c.in-Stopped-Some.t-is
-    (decides_wait _ _ _ (sym c.is_safe.ensures ∙ c.if-is_safe.false) _ (sym c.in-Stopped-Some.is-0 ∙ c.choose.ensures) _ (sym c.in-Stopped-Some.is-1 ∙ c.first_marked-out.ensures))
+    ap Wait c.in-Stopped-Some.t-is
+    ∙ decides_wait _ _ _ (sym c.is_safe.ensures ∙ c.if-is_safe.false) _ (sym c.in-Stopped-Some.is-0 ∙ c.choose.ensures) _ (sym c.in-Stopped-Some.is-1 ∙ c.first_marked-out.ensures)

@@ -1,8 +1,10 @@
 -- Each end of the loop's turn is one law on `Trying`, with what the test of s says of the board; past a test that failed the leads are those after s.
 use Rattle.std.proofs.Common.{◌≡◌, ◌≤◌, ◌-◌, ◌∙◌, sym, ap, rules, inl, inr, ⊎_elim, not, true≢false, arith}
+use Rattle.std.specs.Prelude.{Option, ℕ, ◌/◌}
 use Rattle.std.specs.Option.{is_some}
 use Rattle.laws.specs.Chains.{below}
 use Rattle.dealing.specs.Seen.{seen}
+use Rattle.dealing.specs.Standing.{block_lead_of}
 use Rattle.dealing.specs.Limited.{stops_at, comparisons, next}
 use Rattle.dealing.specs.LimitedRowLaws.{next_in, standing}
 use Rattle.dealing.specs.LimitedOrderLaws.{Other, next_on, rank_next}
@@ -34,7 +36,7 @@ its_leads c =
           w.leads-is
           ∙ rw beside
           (led_renewed _ _ _ _ _ c.args.self.now.board.table.whole.states _ _
-          (⊎_elim (λ q. absurd (true≢false (sym (c.is_none.ensures ∙ ap not w.if-is_none.false) ∙ ap is_some q))) (λ q. rw c.in-Some.is at q) c.loop-candidate.invariant.1) (λ q. omega (arith, o.below)) (rw beside at w.block_lead.ensures))
+          (⊎_elim (λ q. absurd (true≢false (sym (c.is_none.ensures ∙ ap not w.if-is_none.false) ∙ ap is_some q))) (λ q. rw c.in-Some.is at q) c.loop-candidate.invariant.1) (λ q. omega (arith, o.below)) (w.block_lead.ensures ∙ ap (λ (last : Option (ℕ × ℕ)). block_lead_of c.args.self.now last (c.in-Some.s / 16)) beside))
     ]
 
 its_number : (c : After-foremost_lead-candidate)
