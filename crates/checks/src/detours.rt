@@ -30,7 +30,8 @@ impl BoundedTable<'_> {
         (0..self.table.n).fold(true, |right, c| right & self.detour_bounds(a, b, c))
     }
 
-    // All detours from a.
+    // All detours from a. On its own, so that its loops have the registers to themselves.
+    #[inline(never)]
     pub fn detours_from(&self, a: usize) -> bool
         requires { a < self.now.table.n }
         ensures { result ≡ detours_from self.now.table.estimates.now self.now.table.n a }
